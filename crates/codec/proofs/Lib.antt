@@ -18,7 +18,6 @@ pub mod Results
 pub mod Numbered
 pub mod Asked
 pub mod Cuts
-pub mod ReadOnce
 mod Told
 mod Sessions
 mod Apart

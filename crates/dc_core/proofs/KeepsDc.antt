@@ -22,7 +22,7 @@ use Rattle.btree.proofs.Carried.{entries_performed}
 use Rattle.btree.proofs.Owning.{own_leaves}
 use Rattle.btree.proofs.Stays.{performs_one}
 use Rattle.recovery_laws.specs.Recovery.{stored_session}
-use Rattle.recovery_laws.specs.Shape.{beginning}
+use Rattle.framed_log.specs.Beginning.{beginning}
 use Rattle.stable.specs.Usage.{Usage}
 use Rattle.system_txn.specs.SystemView.{SystemView, fresh as fresh_system}
 use Rattle.system_txn.specs.Kept.{IsSystem}

@@ -18,7 +18,7 @@ use Rattle.btree.proofs.Merging.{AreJoinable, joinable, leaf_merged}
 use Rattle.btree.proofs.Splitting.{leaf_split}
 use Rattle.btree.proofs.Stays.{raised_stays, split_stays, merged_stays}
 use Rattle.recovery_laws.specs.Recovery.{stored_session}
-use Rattle.recovery_laws.specs.Shape.{beginning}
+use Rattle.framed_log.specs.Beginning.{beginning}
 use Rattle.stable.specs.Usage.{Usage}
 use Rattle.system_txn.specs.SystemView.{SystemView, with_usage, log_refused}
 use Rattle.system_txn.specs.Kept.{IsSystem}

@@ -7,7 +7,7 @@ use Rattle.page.specs.Leaf.{LeafView}
 use Rattle.take_back_laws.specs.Performed as laws
 use Rattle.take_back_laws.specs.Listed as listing
 use Rattle.btree.specs.Leaves.{rows_of}
-use Rattle.recovery_laws.specs.Shape.{beginning}
+use Rattle.framed_log.specs.Beginning.{beginning}
 use Rattle.recovery_laws.specs.Recovery.{stored_session}
 use Rattle.system_txn.specs.Kept.{IsSystem}
 use Rattle.dc_core.specs.declared.performance.Performance.{Performance}

@@ -3,7 +3,7 @@ ghost use Rattle.std.specs.Prelude.{◌≡◌, ◌≤◌, ◌++◌, [], true, No
 ghost use Rattle.std.specs.FinMap as map;
 ghost use Rattle.stable.specs.Crash.{BeginsWith};
 ghost use Rattle.stable.specs.Usage.{called_often};
-ghost use Rattle.recovery_laws.specs.Shape.{beginning};
+ghost use Rattle.framed_log.specs.Beginning.{beginning};
 ghost use Rattle.system_txn.specs.Devices.{spelled};
 ghost use Rattle.system_txn.specs.SystemView.{failing_at};
 ghost use Rattle.system_txn.specs.Recovering.{Recovers, RefusesRecovery};

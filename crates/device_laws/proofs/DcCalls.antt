@@ -14,7 +14,8 @@ use Rattle.codec.specs.declared.request.Request.{Request}
 use Rattle.codec.specs.declared.request.Request.TheVariants as asks
 use Rattle.codec.specs.declared.reply.Reply.{Reply}
 use Rattle.system_txn.specs.SystemView.{SystemView}
-use Rattle.system_txn.specs.Uses.{FailsWhenDue, StopsWithin, StopsOpening, refused_use, page_calls}
+use Rattle.system_txn.specs.Uses.{FailsWhenDue, StopsWithin, StopsOpening, page_calls}
+use Rattle.framed_log.specs.Refused.{refused_use}
 use Rattle.system_txn.specs.Changes.{split_to, merged_to, covered, written_to, written_all, lowered, taken_back, accepted, forced}
 use Rattle.system_txn.specs.Gives.{Splits, Merges, StopsAppend, SplitGives, MergeGives, TendGives, FlushGives, StopsWriting, CheckpointGives, StopsCheckpoint, AcceptGives, Tending, SplitsAt, MergesAt, Rests, tending, TendsTo, StopsTending, FailsWriting, FailsAmong, append_refusal, make_refusal}
 use Rattle.system_txn.specs.declared.tended.Neighbours.{Neighbours}

@@ -1,7 +1,7 @@
 -- A node that is opened on a log, and the bytes of its log.
 use Rattle.std.specs.Prelude.{◌≡◌, ◌⊎◌, ℕ, List, ◌++◌, length, take, drop}
 use Rattle.stable.specs.Usage.{Usage}
-use Rattle.logical_log.specs.Low.{stable_part}
+use Rattle.framed_log.specs.Beginning.{beginning}
 use Rattle.logical_log.specs.Spelled.{spelled}
 use Rattle.simulation.specs.Reading.{machine_read}
 use Rattle.dc_core.specs.DcView.{fresh}
@@ -19,7 +19,7 @@ use Rattle.jakumshe.specs.Statuses.{fault_of}
 
 -- the bytes of the log that are stable
 abbrev pub stable_bytes : NodeView → List ℕ
-stable_bytes w = spelled (stable_part w.tc.log w.tc.stable)
+stable_bytes w = spelled (beginning w.tc.log w.tc.stable)
 
 -- a node on the log that these bytes spell, and a data component of no records; it stands for the list machine that the
 -- log tells of

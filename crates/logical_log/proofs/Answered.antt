@@ -1,5 +1,5 @@
 -- Up to where every request of a log is answered.
-use Rattle.std.proofs.Common.{◌≡◌, ℕ, ◌-◌, ◌≤◌, Bool, true, false, List, [], ◌∷◌, length, Option, Some, None, IsSome, is_some, zero, suc, refl, ap, arith}
+use Rattle.std.proofs.Common.{◌≡◌, ℕ, Bool, true, false, List, [], ◌∷◌, Option, Some, None, IsSome, is_some, zero, suc, refl, arith}
 use Rattle.std.specs.Prelude.{drop, not, ◌||◌, ◌&&◌}
 use Rattle.record_key.specs.declared.op.Op.{Op}
 use Rattle.history.specs.declared.record.Record.{Record}
@@ -48,12 +48,3 @@ pub answered_whole : (k : ℕ) (log : List Record) (l : ℕ) → FitsCheckpoint 
 answered_whole zero log l h = h
 answered_whole (suc k) [] l h = h
 answered_whole (suc k) (r ∷ log) l h = answered_longer r log l (answered_whole k log l h)
-
--- the stable beginning stays as it is when a record is appended, and is the whole log when all is stable
-pub part_longer : (r : Record) (log : List Record) (stable : ℕ) → stable ≤ length log
-    → drop (length (r ∷ log) - stable) (r ∷ log) ≡ drop (length log - stable) log
-part_longer r log stable within =
-    let e : length (r ∷ log) - stable ≡ suc (length log - stable) = omega arith in ap (λ k. drop k (r ∷ log)) e
-
-pub part_whole : (log : List Record) → drop (length log - length log) log ≡ log
-part_whole log = let e : length log - length log ≡ 0 = omega arith in ap (λ k. drop k log) e

@@ -10,21 +10,23 @@ use Rattle.codec.proofs.Records.{record_length}
 use Rattle.codec.specs.declared.taken.Taken.{Taken}
 use Rattle.codec.specs.declared.taken.Taken.TheVariants as took
 use Rattle.codec.specs.Records.{record_bytes, IsRecord}
+use Rattle.framed_log.specs.Spelled as framed
+use Rattle.framed_log.proofs.Spelled.{length-places, read_back}
 use Rattle.history.specs.declared.record.Record.{Record}
 use Rattle.history.specs.Log.{record_at}
 use Rattle.history.specs.Legal.{Fits}
 use Rattle.logical_log.specs.Index.{noted}
 use Rattle.logical_log.specs.Kept.{AreFrames, AreIndexed}
-use Rattle.logical_log.specs.Spelled.{spelled, places, records_at, records_of, IsPlaceOf}
+use Rattle.logical_log.specs.Spelled.{framing, spelled, places, records_at, records_of, IsPlaceOf}
 use Rattle.logical_log.proofs.Index.{record_at-zero, record_at-past}
-use Rattle.logical_log.proofs.Spelled.{read_back, length-places, tells, Tells}
+use Rattle.logical_log.proofs.Spelled.{log_framing, tells, Tells}
 
 -- the records that are read at the places are those of the log that is kept
 pub same_log : (log : List Record) (bytes left begins answers : List ℕ) (end : ℕ)
     → AreFrames log bytes left begins answers end → records_at bytes begins ≡ log
 same_log log bytes left begins answers end h =
     ap (λ (b : List ℕ). records_at b begins) h.bytes_are ∙ ap (records_at (spelled log ++ left)) h.begins_are
-    ∙ read_back log left h.spellable
+    ∙ read_back log_framing log left h.spellable
 
 -- and what is left is what stands after their frames
 pub same_left : (log : List Record) (bytes left begins answers : List ℕ) (end : ℕ)
@@ -44,7 +46,7 @@ kept_so log bytes left begins answers end h =
 
 -- nothing was read
 pub kept_unread : (bytes : List ℕ) → AreFrames [] bytes bytes [] [] 0
-unfolding spelled places
+unfolding framed.spelled framed.places
 kept_unread bytes = record {
   legal = tt;
   spellable = tt;
@@ -76,7 +78,7 @@ pub kept_longer : (log : List Record) (bytes left begins answers : List ℕ) (en
     → Fits log r → IsRecord r → length log < 281474976710655 → bytes' ≡ spelled log ++ (frame (record_bytes r) ++ rest)
     → AreFrames (r ∷ log) bytes' rest (begins ++ end ∷ []) (noted r (length log + 1) answers)
     (end + length (frame (record_bytes r)))
-unfolding spelled places
+unfolding framed.spelled framed.places
 kept_longer log bytes left begins answers end r bytes' rest h fits spells room is = record {
   legal = (fits, h.legal);
   spellable = (spells, h.spellable);
@@ -149,7 +151,7 @@ indexed_longer log bytes left marks count answers end r bytes' rest h fits spell
 pub indexed_count : (log : List Record) (bytes left marks : List ℕ) (count : ℕ) (answers : List ℕ) (end : ℕ)
     → AreIndexed log bytes left marks count answers end → count ≡ length log
 indexed_count log bytes left marks count answers end h =
-    sym (length-places_of bytes count) ∙ ap length h.frames.begins_are ∙ length-places log
+    sym (length-places_of bytes count) ∙ ap length h.frames.begins_are ∙ length-places framing log
 
 -- what a reading at its place tells of a number
 pub tells_kept : {X : Type 0} (of : Record → X) (log : List Record) (bytes left begins answers : List ℕ) (end : ℕ)
@@ -158,7 +160,7 @@ pub tells_kept : {X : Type 0} (of : Record → X) (log : List Record) (bytes lef
     → ((r : Record) (rest : List ℕ) → IsRecord r → drop place given ≡ frame (record_bytes r) ++ rest → told ≡ of r)
     → Tells log n of told
 tells_kept of log bytes left begins answers end h n place given told same at only =
-    let count : length begins ≡ length log = ap length h.begins_are ∙ length-places log in
+    let count : length begins ≡ length log = ap length h.begins_are ∙ length-places framing log in
     let at_zero : place ≡ get_or (places log) (n - 1) 0 = at.at
     ∙ get_or_default_zero begins (n - 1) place (omega (arith, at.positive, at.bounded))
     ∙ ap (λ (b : List ℕ). get_or b (n - 1) 0) h.begins_are in
@@ -171,7 +173,7 @@ pub none_kept : (log : List Record) (bytes left begins answers : List ℕ) (end 
 none_kept log bytes left begins answers end h n none =
     elim none [
       | inl zero ↦ ap (record_at log) zero ∙ record_at-zero log
-      | inr past ↦ record_at-past log n (omega (arith, past, ap length h.begins_are ∙ length-places log))
+      | inr past ↦ record_at-past log n (omega (arith, past, ap length h.begins_are ∙ length-places framing log))
     ]
 
 -- a record and the place after it

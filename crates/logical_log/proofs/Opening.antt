@@ -1,5 +1,5 @@
 -- Reading one record after another, from the beginning of the bytes.
-use Rattle.std.proofs.Common.{◌≡◌, ◌⊎◌, ℕ, ◌+◌, ◌<◌, List, [], ◌∷◌, ◌++◌, length, Option, None, refl, sym, ap, ◌∙◌, subst, arith, inl, inr, append_assoc, true≢false}
+use Rattle.std.proofs.Common.{◌≡◌, ◌⊎◌, ℕ, ◌+◌, ◌<◌, List, [], ◌∷◌, ◌++◌, length, Option, None, refl, sym, ap, ◌∙◌, subst, arith, inl, inr, true≢false}
 use Rattle.std.proofs.lemmas.List.{length-append}
 use Rattle.codec.specs.Fields.{number}
 use Rattle.codec.specs.Frames.{frame}
@@ -8,27 +8,28 @@ use Rattle.codec.proofs.Fields.{length-number}
 use Rattle.record_key.specs.declared.refusal.Refusal.{Refusal}
 use Rattle.record_key.specs.declared.refusal.Refusal.TheVariants.{NoMemory, BadBytes}
 use Rattle.record_key.specs.Table.{Bytes}
+use Rattle.framed_log.specs.Spelled as framed
+use Rattle.framed_log.proofs.Spelled.{newest_last}
 use Rattle.history.specs.declared.record.Record.{Record}
 use Rattle.history.specs.Legal.{Fits, IsLegal}
 use Rattle.logical_log.specs.Opening.{BeginsAs, RefusesBytes}
 use Rattle.logical_log.specs.Replay.{IsIndex, IsAnalysis, KeptOn, AddedBy, holder_in, adders_of}
 use Rattle.logical_log.specs.declared.replay.Index.{Index}
-use Rattle.logical_log.specs.Spelled.{spelled}
+use Rattle.logical_log.specs.Spelled.{framing, spelled}
 
 pub begins_nothing : (bytes : List ℕ) → BeginsAs bytes [] bytes
-unfolding spelled
-begins_nothing bytes = record { legal = tt; spellable = tt; numbered = omega arith; parts = refl }
+unfolding framed.spelled
+begins_nothing bytes = record { good = tt; records = tt; numbered = omega arith; parts = refl }
 
 pub begins_more : (bytes : List ℕ) (log : List Record) (left : List ℕ) (r : Record) (left' : List ℕ)
     → BeginsAs bytes log left → IsLegal (r ∷ log) → IsRecord r → length log < 281474976710655
     → left ≡ frame (record_bytes r) ++ left' → BeginsAs bytes (r ∷ log) left'
-unfolding spelled
 begins_more bytes log left r left' h legal spells room is = record {
-  legal = legal;
-  spellable = (spells, h.spellable);
+  records = (spells, h.records);
+  good = legal;
   numbered = omega (arith, room);
   parts = h.parts ∙ ap (λ (l : List ℕ). spelled log ++ l) is
-      ∙ sym (append_assoc (spelled log) (frame (record_bytes r)) left');
+      ∙ sym (newest_last framing r log left');
 }
 
 -- a frame has bytes
@@ -75,6 +76,6 @@ refused_next bytes log left r rest given h spells parts (inr bad) =
         left = left;
         begins = h;
         place_is = refl;
-        bad = inr (record { next = r; stands = record { spells = spells; rest = rest; parts = parts }; unfit = bad.1 });
+        bad = inr (record { next = r; stands = record { fits = spells; rest = rest; parts = parts }; unfit = bad.1 });
       },
     )

@@ -3,27 +3,20 @@ use Rattle.std.specs.Prelude.{◌≡◌, ◌⊎◌, ℕ, ◌<◌, ◌≤◌, ◌
 use Rattle.record_key.specs.declared.refusal.Refusal.{Refusal}
 use Rattle.record_key.specs.declared.refusal.Refusal.TheVariants.{NoMemory, Device}
 use Rattle.stable.specs.Crash.{BeginsWith, MayLeave}
+use Rattle.framed_log.specs.Beginning.{beginning}
+use Rattle.framed_log.specs.Crashed.{LeavesBeginning}
 use Rattle.history.specs.declared.record.Record.{Record}
 use Rattle.history.specs.Legal.{IsLegal}
-use Rattle.logical_log.specs.Low.{stable_part}
 use Rattle.logical_log.specs.Opening.{IsLogOf, RefusesOpen}
-use Rattle.logical_log.specs.Spelled.{spelled, AreRecords}
-
--- what a crash left are the frames of the first records, so many, and perhaps a part of one; with all that are stable,
--- and with each one more whose frame there is room for
-pub record IsLeftOf (log : List Record) (stable : ℕ) (left : List ℕ) : Type 0 where
-  pub kept : ℕ
-  pub stable_left : stable ≤ kept
-  pub within : kept ≤ length log
-  pub is : IsLogOf left (stable_part log kept)
-  pub most : (n : ℕ) → n ≤ length log → length (spelled (stable_part log n)) ≤ length left → n ≤ kept
+use Rattle.logical_log.specs.Spelled.{framing, spelled, AreRecords}
 
 -- a crash leaves whole frames, and perhaps a cut one
 abbrev pub CrashesLeaveLogs : Type 0
 CrashesLeaveLogs =
     (log : List Record) (stable : ℕ) (forced pending left : List ℕ) → IsLegal log → AreRecords log
     → length log < 2 ^ 48 → stable ≤ length log → forced ++ pending ≡ spelled log
-    → BeginsWith forced (spelled (stable_part log stable)) → MayLeave forced pending left → IsLeftOf log stable left
+    → BeginsWith forced (spelled (beginning log stable)) → MayLeave forced pending left
+    → LeavesBeginning framing IsLogOf log stable left
 
 -- bytes are those of one log
 abbrev pub OpensOnce : Type 0

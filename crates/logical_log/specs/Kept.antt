@@ -10,7 +10,8 @@ use Rattle.stable.specs.LogState.{LogState}
 use Rattle.stable.specs.Usage.{Usage, called}
 use Rattle.logical_log.specs.Index.{index}
 use Rattle.logical_log.specs.LogView.{last_not_session}
-use Rattle.logical_log.specs.Low.{stable_part, IsGreatestLow}
+use Rattle.logical_log.specs.Low.{IsGreatestLow}
+use Rattle.framed_log.specs.Beginning.{beginning}
 use Rattle.logical_log.specs.Spelled.{spelled, places, AreRecords}
 
 -- what is seen of frames: the records that were read, the newest first, the bytes after these, and the device
@@ -58,5 +59,5 @@ pub record IsKept (whole : Bool) (frames : FramesView) (stable answered last : �
   pub greatest : IsGreatestLow frames.records stable answered
   pub last_is : last ≡ last_not_session frames.records
   pub stored : frames.device.forced ++ frames.device.pending ≡ spelled frames.records
-  pub covered : BeginsWith frames.device.forced (spelled (stable_part frames.records stable))
-  pub just : whole ≡ true → frames.device.forced ≡ spelled (stable_part frames.records stable)
+  pub covered : BeginsWith frames.device.forced (spelled (beginning frames.records stable))
+  pub just : whole ≡ true → frames.device.forced ≡ spelled (beginning frames.records stable)

@@ -2,10 +2,9 @@
 use Rattle.std.specs.Prelude.{◌≡◌, ℕ, ◌+◌, Bool, false, List, [], ◌∷◌, Option, Result, Ok, Err, length, nat_le}
 use Rattle.record_key.specs.FirstCause.{first_of}
 use Rattle.record_key.specs.declared.refusal.Refusal.{Refusal}
-use Rattle.record_key.specs.declared.refusal.Refusal.TheVariants.{NoMemory, Device, NumbersSpent}
-use Rattle.stable.specs.Usage.{Usage, called, failed}
-use Rattle.stable.specs.declared.error.DeviceError.{DeviceError}
-use Rattle.stable.specs.declared.error.DeviceError.TheVariants as device
+use Rattle.record_key.specs.declared.refusal.Refusal.TheVariants.{NumbersSpent}
+use Rattle.framed_log.specs.Refused.{refused_use}
+use Rattle.stable.specs.Usage.{Usage, called}
 use Rattle.history.specs.declared.record.Record.{Record}
 use Rattle.history.specs.declared.record.Record.TheVariants.{Session}
 
@@ -34,11 +33,6 @@ pub record Appends (old : LogView) (r : Record) (number : ℕ) (new : LogView) :
   pub number_is : number ≡ length old.records + 1
   pub log : new ≡ record old { records = r ∷ old.records; usage = called old.usage }
 
--- the device after a call that was refused so: it was called only where it failed
-abbrev pub refused_use : Usage → Refusal → Usage
-refused_use u Device = failed u
-refused_use u _ = u
-
 -- the device after one call of it that gave this answer
 abbrev pub usage_after : {T : Type 0} → Usage → Result T Refusal → Usage
 usage_after u (Ok _) = called u
@@ -47,8 +41,3 @@ usage_after u (Err r) = refused_use u r
 -- the log after a call that was refused so: as it was, but for that
 abbrev pub after_refusal : LogView → Refusal → LogView
 after_refusal log r = record log { usage = refused_use log.usage r }
-
--- the refusal that a device's error is answered with
-abbrev pub refusal_from : DeviceError → Refusal
-refusal_from device.NoMemory = NoMemory
-refusal_from device.Device = Device

@@ -17,19 +17,20 @@ ghost use Rattle.record_key.specs.declared.op.Answer.{Answer};
 ghost use Rattle.stable.specs.Device.{ForcesPart};
 ghost use Rattle.stable.specs.Usage.{is_due, called, failed, failing_in};
 ghost use Rattle.logical_log.specs.Kept.{with_record, with_usage};
-ghost use Rattle.logical_log.specs.LogView.{refused_use};
-ghost use Rattle.logical_log.specs.Low.{stable_part};
+ghost use Rattle.framed_log.specs.Refused.{refused_use};
+ghost use Rattle.framed_log.specs.Beginning.{beginning};
 ghost use Rattle.logical_log.specs.Spelled.{spelled, AreRecords, IsAskedBy, IsNext, IsPlaceOf};
 ghost use Rattle.logical_log.specs.Undoing.{comp_at, inverse_at, next_at, IsToldOf};
 
 use crate::appended::Appended;
 use crate::compensated::Compensated;
 use crate::note::{ASKS_NOTHING, answer_held, answer_place, note, note_comp};
-use crate::write::{refusal_of, write, write_comp};
+use crate::write::{write, write_comp};
 use codec::{
     CompNumbers, FrameEnd, FrameIndex, Taken, asked_bytes, asked_op, left_to_undo, read_record,
     step_prev, step_txn, take_record,
 };
+use framed_log::refusal_of;
 use history::Record;
 use record_key::{Answer, Op, Refusal};
 use stable::{CrashLog, LogDevice};
@@ -233,7 +234,7 @@ impl<D: LogDevice> Frames<D> {
     /// Where the frames of the first records end, so many.
     pub(crate) fn end_of(&self, count: u64) -> usize
         requires { count ≤ length self.now.records }
-        ensures { result ≡ length (spelled (stable_part self.now.records count)) }
+        ensures { result ≡ length (spelled (beginning self.now.records count)) }
     {
         if count < self.index.len() as u64 {
             self.index.place(self.device.held(), count as usize)

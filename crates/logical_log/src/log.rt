@@ -7,7 +7,8 @@ ghost use Rattle.stable.specs.Crash.{BeginsWith};
 ghost use Rattle.stable.specs.Usage.{failing_in};
 ghost use Rattle.logical_log.specs.Index.{lacks_answer};
 ghost use Rattle.logical_log.specs.LogView.{last_not_session};
-ghost use Rattle.logical_log.specs.Low.{stable_part, IsGreatestLow};
+ghost use Rattle.logical_log.specs.Low.{IsGreatestLow};
+ghost use Rattle.framed_log.specs.Beginning.{beginning};
 ghost use Rattle.logical_log.specs.Spelled.{spelled, AreRecords, IsAskedBy};
 
 use crate::frames::Frames;
@@ -61,8 +62,8 @@ impl<D: LogDevice> Log<D> {
     /// it forces all or nothing.
     pub fn stop(self) -> D
         ensures holds { D.forced result ++ D.pending result ≡ spelled self.records }
-        ensures forced { BeginsWith (D.forced result) (spelled (stable_part self.records self.stable)) }
-        ensures just { D.forces_whole ≡ true → D.forced result ≡ spelled (stable_part self.records self.stable) }
+        ensures forced { BeginsWith (D.forced result) (spelled (beginning self.records self.stable)) }
+        ensures just { D.forces_whole ≡ true → D.forced result ≡ spelled (beginning self.records self.stable) }
         ensures spellable { AreRecords self.records }
         ensures usage { D.usage result ≡ self.usage }
     {
@@ -102,7 +103,7 @@ impl<D: LogDevice> Log<D> {
 
     /// The bytes of the stable records. Takes no memory and makes no device call.
     pub fn stable_bytes(&self) -> &[u8]
-        ensures { result.now ≡ spelled (stable_part self.now.records self.now.stable) }
+        ensures { result.now ≡ spelled (beginning self.now.records self.now.stable) }
     {
         &self.frames.bytes()[..self.frames.end_of(self.stable)]
     }
@@ -110,7 +111,7 @@ impl<D: LogDevice> Log<D> {
     /// Where in the device's bytes the first records end, so many. Takes no memory and makes no device call.
     pub fn end_of(&self, count: u64) -> usize
         requires { count ≤ length self.now.records }
-        ensures { result ≡ length (spelled (stable_part self.now.records count)) }
+        ensures { result ≡ length (spelled (beginning self.now.records count)) }
     {
         self.frames.end_of(count)
     }

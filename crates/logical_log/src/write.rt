@@ -11,16 +11,17 @@ ghost use Rattle.record_key.specs.declared.op.Op.{Op as OpValue};
 ghost use Rattle.record_key.specs.declared.op.Answer.{Answer as AnswerValue};
 ghost use Rattle.record_key.specs.FirstCause.{MayRefuse};
 ghost use Rattle.stable.specs.Usage.{is_due, called};
-ghost use Rattle.logical_log.specs.LogView.{Appends, spent_refusal, after_refusal, usage_after, refusal_from};
+ghost use Rattle.logical_log.specs.LogView.{Appends, spent_refusal, after_refusal, usage_after};
 ghost use Rattle.logical_log.specs.Undoing.{comp_at, IsToldOf};
 
 use crate::appended::Appended;
 use crate::compensated::Compensated;
 use crate::log::Log;
 use codec::{CompNumbers, put_undo};
+use framed_log::refusal_of;
 use history::Record;
 use record_key::{Answer, Op, Refusal};
-use stable::{DeviceError, LogDevice};
+use stable::LogDevice;
 
 /// The greatest number that a record may have.
 pub(crate) const LAST_NUMBER: u64 = 281_474_976_710_655;
@@ -173,14 +174,5 @@ pub(crate) fn write_comp<D: LogDevice>(
     match device.append(out) {
         Ok(()) => Ok(asks),
         Err(error) => Err(refusal_of(error)),
-    }
-}
-
-pub(crate) fn refusal_of(error: DeviceError) -> Refusal
-    ensures { result ≡ refusal_from error }
-{
-    match error {
-        DeviceError::NoMemory => Refusal::NoMemory,
-        DeviceError::Device => Refusal::Device,
     }
 }

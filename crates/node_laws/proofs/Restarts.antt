@@ -2,7 +2,6 @@
 pub mod Beginnings
 pub mod Crashes
 pub mod Downs
-pub mod Ends
 pub mod Fallen
 pub mod HonestShorter
 pub mod Keeping

@@ -7,9 +7,8 @@ use Rattle.codec.specs.declared.dc_record.DcRecord.{DcRecord}
 use Rattle.history.specs.declared.record.Record.{Record}
 use Rattle.stable.specs.Usage.{Usage, called_often, failing_in}
 use Rattle.stable.specs.PagesState.{Pages}
-use Rattle.logical_log.specs.Low.{stable_part}
+use Rattle.framed_log.specs.Beginning.{beginning}
 use Rattle.logical_log.specs.Spelled as records
-use Rattle.recovery_laws.specs.Shape.{beginning}
 use Rattle.system_txn.specs.declared.devices.Device.{Device}
 use Rattle.system_txn.specs.SystemView.{with_usage, failing_at}
 use Rattle.system_txn.specs.Uses.{StopsOpening, page_calls}
@@ -56,7 +55,7 @@ pub record Keeps (size : ℕ → ℕ) (stable_end records more bytes n : ℕ) : 
 
 -- how many bytes the first records have, so many
 abbrev pub tc_size : List Record → ℕ → ℕ
-tc_size log n = length (records.spelled (stable_part log n))
+tc_size log n = length (records.spelled (beginning log n))
 
 -- what isn't on the device is gone
 abbrev pub TcCrashesTo : TcSide → ℕ → ℕ → Bool → TcSide → Type 0

@@ -1,6 +1,6 @@
 -- What a crash leaves of the transaction component once it is opened again.
 use Rattle.std.specs.Prelude.{◌≡◌, ℕ, ◌≤◌, [], length}
-use Rattle.logical_log.specs.Low.{stable_part}
+use Rattle.framed_log.specs.Beginning.{beginning}
 use Rattle.tc_core.specs.declared.phase.Phase.TheVariants as phase
 use Rattle.tc_core.specs.TcView.{TcView}
 use Rattle.tc_core.specs.Kept.{IsTc}
@@ -12,7 +12,7 @@ pub record IsFallen (old new : TcView) : Type 0 where
   pub kept : ℕ
   pub stable : old.stable ≤ kept
   pub within : kept ≤ length old.log
-  pub log : new.log ≡ stable_part old.log kept
+  pub log : new.log ≡ beginning old.log kept
   pub all : new.stable ≡ kept
   pub session : new.session ≡ 0
   pub unconnected : new.phase ≡ phase.Unconnected

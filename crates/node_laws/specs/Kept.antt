@@ -39,7 +39,7 @@ use Rattle.tc_core.specs.TcView.{TcView}
 use Rattle.tc_core.specs.Opening.{IsOpened}
 use Rattle.stable.specs.Usage.{Usage}
 use Rattle.history.specs.Legal.{FitsCheckpoint}
-use Rattle.logical_log.specs.Low.{stable_part}
+use Rattle.framed_log.specs.Beginning.{beginning}
 use Rattle.logical_log.specs.LogView.{last_not_session}
 use Rattle.tc_core.specs.Kept.{IsTc}
 use Rattle.node_laws.specs.Node.{NodeView}
@@ -47,7 +47,7 @@ use Rattle.node_laws.specs.Source.{Source, IsWaiting, IsSource, own}
 
 -- every request up to a number has its answer among the log's first records, so many
 abbrev pub IsAnsweredBy : List Record → ℕ → ℕ → Type 0
-IsAnsweredBy log end l = FitsCheckpoint (stable_part log end) l
+IsAnsweredBy log end l = FitsCheckpoint (beginning log end) l
 
 -- every request up to a stable number has a stable answer
 abbrev pub IsAnsweredTo : TcView → ℕ → Type 0
@@ -227,7 +227,7 @@ pub record IsKept (w : NodeView) : Type 0 where
   -- 11. what the data component knows not to be lost is sure, and what its leaves had when they were opened is stable;
   -- and while the transaction component waits nothing but sessions is lost by a crash
   pub known : w.dc.known ≤ source.sure
-  pub opened : w.dc.opened_to ≤ last_not_session (stable_part w.tc.log w.tc.stable)
+  pub opened : w.dc.opened_to ≤ last_not_session (beginning w.tc.log w.tc.stable)
   pub quiet : IsWaiting w.tc.phase → last_not_session w.tc.log ≤ w.tc.stable
 
 -- what may be made a node with a data component of no records: a component that was opened on a log, whoever wrote that,

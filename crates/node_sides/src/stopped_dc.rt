@@ -1,6 +1,5 @@
 //! What is left of the data component while it is down: its devices.
 ghost use Rattle.std.specs.Prelude.{◌≡◌, ◌⊎◌, ℕ, ◌≤◌, [], List, length, IfOk, IfErr};
-ghost use Rattle.recovery_laws.specs.Shape.{beginning};
 ghost use Rattle.system_txn.specs.Kept.{IsRecoverable};
 ghost use Rattle.system_txn.specs.SystemView.{failing_at};
 ghost use Rattle.system_txn.specs.Recovering.{HoldsFrames};

@@ -2,7 +2,7 @@
 //! hands out the requests that it sends.
 ghost use Rattle.std.specs.Prelude.{◌≡◌, ◌≤◌, ℕ, true, false, length, Some, None, OnOk, OnErr, IfOk, IfErr, IfSome, IfNone};
 ghost use Rattle.stable.specs.Usage.{unused};
-ghost use Rattle.logical_log.specs.Low.{stable_part};
+ghost use Rattle.framed_log.specs.Beginning.{beginning};
 ghost use Rattle.logical_log.specs.Spelled.{spelled};
 ghost use Rattle.codec.specs.declared.reply.Reply.TheVariants as says;
 ghost use Rattle.tc_core.specs.Kept.{IsTc};
@@ -294,7 +294,7 @@ impl<D: CrashLog> TcSide<D> {
     /// How many bytes of the log the first records have, so many.
     pub fn end_of(&self, count: u64) -> Result<usize, Refusal>
         requires { count ≤ length self.now.tc.log }
-        ensures end { IfOk result (λ end. end ≡ length (spelled (stable_part self.now.tc.log count))) }
+        ensures end { IfOk result (λ end. end ≡ length (spelled (beginning self.now.tc.log count))) }
         ensures up { OnOk result (self.now.up ≡ true) }
         ensures refused { IfErr result (λ refusal. refusal ≡ Refusal.NotConnected) }
         ensures down { OnErr result (self.now.up ≡ false) }
@@ -304,7 +304,7 @@ impl<D: CrashLog> TcSide<D> {
 
     /// The bytes of the stable records.
     pub fn stable_bytes(&self) -> Result<&[u8], Refusal>
-        ensures bytes { IfOk result (λ bytes. bytes.now ≡ spelled (stable_part self.now.tc.log self.now.tc.stable)) }
+        ensures bytes { IfOk result (λ bytes. bytes.now ≡ spelled (beginning self.now.tc.log self.now.tc.stable)) }
         ensures up { OnOk result (self.now.up ≡ true) }
         ensures refused { IfErr result (λ refusal. refusal ≡ Refusal.NotConnected) }
         ensures down { OnErr result (self.now.up ≡ false) }

@@ -1,9 +1,10 @@
 -- Leaves as the log has them, one record later.
-use Rattle.std.proofs.Common.{◌≡◌, ◌≢◌, ℕ, ◌+◌, ◌≤◌, List, [], ◌∷◌, length, Some, refl, sym, ap, ◌∙◌, arith, le-ltb, lt-ltb}
+use Rattle.std.proofs.Common.{◌≡◌, ◌≢◌, ℕ, ◌+◌, ◌≤◌, List, [], ◌∷◌, length, Some, refl, sym, ap, ◌∙◌, arith}
 use Rattle.record_key.specs.Table.{Bytes}
 use Rattle.codec.specs.declared.image.LeafImage.{LeafImage}
 use Rattle.codec.specs.declared.dc_record.DcRecord.{DcRecord}
 use Rattle.codec.specs.declared.dc_record.DcRecord.TheVariants.{Accept, Split, Merge}
+use Rattle.framed_log.proofs.Beginning.{whole, shorter}
 use Rattle.page.specs.Leaf.{LeafView, first}
 use Rattle.page.specs.Parting.{lower_of}
 use Rattle.page.specs.Tiles.{part_of}
@@ -44,7 +45,7 @@ now_current r log id leaf last at = record {
   own = part_own id (shape (r ∷ log)) (part_of leaf) at;
   last = omega (arith, last);
   fences = at;
-  written = rw (lt-ltb (length log) leaf.last (omega (arith, last))) at;
+  written = ap (λ (l : List DcRecord). part_in id (shape l)) (whole (r ∷ log) leaf.last (omega (arith, last))) ∙ at;
   seen = seen_all (r ∷ log) id leaf.last (omega (arith, last));
 }
 
@@ -56,7 +57,7 @@ stays_current r log id leaf same other old = record {
   own = old.own;
   last = omega (arith, old.last);
   fences = same ∙ old.fences;
-  written = rw (le-ltb (length log) leaf.last old.last) old.written;
+  written = ap (λ (l : List DcRecord). part_in id (shape l)) (shorter r log leaf.last old.last) ∙ old.written;
   seen = (λ made at own. absurd (other made at own), old.seen);
 }
 

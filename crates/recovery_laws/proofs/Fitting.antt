@@ -3,16 +3,17 @@ use Rattle.std.proofs.Common.{◌≡◌, ◌≢◌, ℕ, ◌≤◌, List, length
 use Rattle.std.proofs.lemmas.Bool.{cases_eq}
 use Rattle.codec.specs.declared.dc_record.DcRecord.{DcRecord}
 use Rattle.page.specs.Leaf.{LeafView}
-use Rattle.recovery_laws.specs.Shape.{part_in, shape, beginning}
+use Rattle.recovery_laws.specs.Shape.{part_in, shape}
+use Rattle.framed_log.specs.Beginning.{beginning}
 use Rattle.recovery_laws.specs.Recovery.{Pages, IsPageOf, FitPages, written}
 use Rattle.recovery_laws.specs.Ready.{PagesStayFit}
-use Rattle.recovery_laws.proofs.Beginnings.{shorter, twice, length_beginning}
+use Rattle.framed_log.proofs.Beginning.{shorter, twice, long_enough}
 
 -- pages fit each beginning with all that was forced, and where more was forced
 pub fit_beginning : (pages : Pages) (log : List DcRecord) (forced n : ℕ) → FitPages pages log forced → forced ≤ n
     → FitPages pages (beginning log n) forced
 fit_beginning pages log forced n fit le = record {
-  kept = length_beginning log n forced le fit.kept;
+  kept = long_enough log n forced le fit.kept;
   each = λ id page is.
       let was : IsPageOf log forced id page = fit.each id page is in
       record {
@@ -71,5 +72,5 @@ fit_stays = record {
   };
   crash = λ pages log forced n fit le.
       more_forced pages (beginning log n) forced (length (beginning log n)) (fit_beginning pages log forced n fit le)
-      (length_beginning log n forced le fit.kept) (omega arith);
+      (long_enough log n forced le fit.kept) (omega arith);
 }

@@ -9,7 +9,8 @@ use Rattle.page.specs.Leaf.{LeafView}
 use Rattle.page.specs.Parting.{lower_of, upper_of, joined_of}
 use Rattle.page.specs.Tiles.{Part, part_of, parts_of, IsInside}
 use Rattle.recovery_laws.specs.Images.{image_of}
-use Rattle.recovery_laws.specs.Shape.{part_in, next_id, shape, named, beginning, split_parts, merge_parts, FitsSplit, FitsMerge, IsLegal}
+use Rattle.recovery_laws.specs.Shape.{part_in, next_id, shape, named, split_parts, merge_parts, FitsSplit, FitsMerge, IsLegal}
+use Rattle.framed_log.specs.Beginning.{beginning}
 use Rattle.recovery_laws.specs.Recovery.{Pages, with_leaf, leaves_of, recover, FitPages}
 use Rattle.recovery_laws.specs.Laws.{IsSeen, IsCurrent, HasShape}
 use Rattle.recovery_laws.specs.Leaves.{AreCurrent, lasts_of, split_of, merge_of, LeavesAreTheShapes}

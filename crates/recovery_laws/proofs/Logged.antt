@@ -1,17 +1,18 @@
 -- Which of a leaf's sources are in the log, and when its page is the only one.
-use Rattle.std.proofs.Common.{◌≡◌, ◌≢◌, ℕ, ◌<◌, ◌≤◌, List, [], ◌∷◌, length, Some, None, refl, sym, ap, ◌∙◌, subst, arith, inl, inr, le-ltb, lt-ltb}
+use Rattle.std.proofs.Common.{◌≡◌, ◌≢◌, ℕ, ◌<◌, ◌≤◌, List, [], ◌∷◌, length, Some, None, refl, sym, ap, ◌∙◌, subst, arith, inl, inr}
 use Rattle.std.proofs.lemmas.Bool.{cases_lt}
 use Rattle.codec.specs.declared.dc_record.DcRecord.{DcRecord}
 use Rattle.codec.specs.declared.dc_record.DcRecord.TheVariants.{Accept, Split, Merge}
 use Rattle.page.specs.Leaf.{LeafView}
 use Rattle.page.specs.Tiles.{part_of}
 use Rattle.recovery_laws.specs.Images.{leaf_of}
-use Rattle.recovery_laws.specs.Shape.{part_in, shape, named, beginning, FitsSplit, FitsMerge, IsLegal}
+use Rattle.recovery_laws.specs.Shape.{part_in, shape, named, FitsSplit, FitsMerge, IsLegal}
+use Rattle.framed_log.specs.Beginning.{beginning}
 use Rattle.recovery_laws.specs.Recovery.{Pages}
 use Rattle.recovery_laws.specs.Laws.{IsSeen, LoggedHave, SourcesHave}
 use Rattle.recovery_laws.proofs.Finding.{next_left}
 use Rattle.recovery_laws.proofs.Shapes.{known}
-use Rattle.recovery_laws.proofs.Beginnings.{whole, shorter}
+use Rattle.framed_log.proofs.Beginning.{shorter, whole, of_beginning}
 
 -- leaves in records have numbers that were named
 not_left : (log : List DcRecord) (left right id : ℕ) → IsLegal log → part_in left (shape log) ≢ None → named log < id
@@ -60,12 +61,7 @@ logged_seen P pages id page (r ∷ log) is seen = (
 )
 
 pub seen_beginning : (id m : ℕ) (log : List DcRecord) (n : ℕ) → IsSeen id m log → IsSeen id m (beginning log n)
-seen_beginning id m [] n seen = tt
-seen_beginning id m (r ∷ log) n seen =
-    elim (cases_lt (length log) n) [
-      | inl less ↦ rw (lt-ltb (length log) n less) seen
-      | inr ge ↦ rw (le-ltb (length log) n ge) (seen_beginning id m log n seen.1)
-    ]
+seen_beginning id m log n seen = of_beginning (IsSeen id m) n (λ r l more h. h.1) log seen
 
 pub page_alone : (P : LeafView → Type 0) (pages : Pages) (id : ℕ) (page : LeafView) (log : List DcRecord)
     → pages id ≡ Some page → P page → IsSeen id page.last log → SourcesHave P pages id log
@@ -84,7 +80,7 @@ pub record IsSeenBy (forced id : ℕ) (log : List DcRecord) : Type 0 where
 pub forced_shape : (log : List DcRecord) (forced : ℕ) → IsLegal log
     → ((id : ℕ) → part_in id (shape log) ≢ None → IsSeenBy forced id log)
     → (n : ℕ) → forced ≤ n → shape (beginning log n) ≡ shape log
-forced_shape [] forced legal each n le = refl
+forced_shape [] forced legal each n le = ap shape (whole [] n (omega arith))
 forced_shape (r ∷ log) forced legal each n le =
     elim (cases_lt (length log) n) [
       | inl less ↦ ap shape (whole (r ∷ log) n (omega (arith, less)))

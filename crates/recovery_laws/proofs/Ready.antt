@@ -1,12 +1,13 @@
 -- Pages and log that are ready for a crash, and stay so.
-use Rattle.std.proofs.Common.{◌≡◌, ◌≢◌, ℕ, ◌<◌, ◌≤◌, List, [], ◌∷◌, length, Some, None, is_some, refl, sym, ap, ◌∙◌, subst, arith, inl, inr, true≢false, eq-eqb, ne_eqb, le-ltb, lt-ltb}
+use Rattle.std.proofs.Common.{◌≡◌, ◌≢◌, ℕ, ◌<◌, ◌≤◌, List, [], ◌∷◌, length, Some, None, is_some, refl, sym, ap, ◌∙◌, subst, arith, inl, inr, true≢false, eq-eqb, ne_eqb}
 use Rattle.std.proofs.lemmas.Bool.{cases_eq, cases_lt}
 use Rattle.std.specs.List.{AllByRecursion}
 use Rattle.codec.specs.declared.dc_record.DcRecord.{DcRecord}
 use Rattle.codec.specs.declared.dc_record.DcRecord.TheVariants.{Accept, Split, Merge}
 use Rattle.page.specs.Leaf.{LeafView, first}
 use Rattle.page.specs.Tiles.{part_of}
-use Rattle.recovery_laws.specs.Shape.{part_in, shape, named, beginning, FitsSplit, IsLegal}
+use Rattle.recovery_laws.specs.Shape.{part_in, shape, named, FitsSplit, IsLegal}
+use Rattle.framed_log.specs.Beginning.{beginning}
 use Rattle.recovery_laws.specs.Recovery.{Pages, FitPages, written}
 use Rattle.recovery_laws.specs.Laws.{leaf_in, IsCurrent, LoggedHave, SourcesHave, IsKeptByCuts}
 use Rattle.recovery_laws.specs.Ready.{IsReady, Recovers, AreWritten, AllHave, ReadyStays}
@@ -15,32 +16,32 @@ use Rattle.recovery_laws.proofs.Merging.{merge_none}
 use Rattle.recovery_laws.proofs.Shapes.{known_before}
 use Rattle.recovery_laws.proofs.Presence.{is_there}
 use Rattle.recovery_laws.proofs.Sources.{recovered_have}
-use Rattle.recovery_laws.proofs.Beginnings.{whole, shorter, legal_beginning}
+use Rattle.recovery_laws.proofs.Beginnings.{legal_beginning}
+use Rattle.framed_log.proofs.Beginning.{shorter, whole, of_beginning}
 use Rattle.recovery_laws.proofs.Fitting.{fit_beginning}
 use Rattle.recovery_laws.proofs.Logged.{unnamed, logged_alike, seen_beginning, page_alone, forced_shape}
 
 module _ (P : LeafView → Type 0) where
-  none_ready : P first → IsReady P (λ id. None) [] 0
-  none_ready has n id le at = record { page = λ page is. absurd (cc); logged = λ e none. has }
-
-  all_sources : (pages : Pages) (id : ℕ) (log : List DcRecord) (n : ℕ) → P first
+  all_sources : (pages : Pages) (id : ℕ) (log : List DcRecord) → P first
       → AllByRecursion (λ (r : DcRecord). (leaf : LeafView) → leaf_in r ≡ Some leaf → P leaf) log
+      → LoggedHave P pages id log
+  all_sources pages id [] has all = λ e none. has
+  all_sources pages id (r ∷ log) has all =
+      (λ made is own unseen. all.0 made is, all_sources pages id log has all.1)
+
+  some_sources : (pages : Pages) (id : ℕ) (log : List DcRecord) (n : ℕ) → LoggedHave P pages id log
       → LoggedHave P pages id (beginning log n)
-  all_sources pages id [] n has all = λ e none. has
-  all_sources pages id (r ∷ log) n has all =
-      elim (cases_lt (length log) n) [
-        | inl less ↦
-            rw (lt-ltb (length log) n less) (
-              λ made is own unseen. all.0 made is,
-              rw (whole log n (omega (arith, less))) at
-                  (all_sources pages id log n has all.1),
-            )
-        | inr ge ↦ rw (le-ltb (length log) n ge) (all_sources pages id log n has all.1)
-      ]
+  some_sources pages id log n h = of_beginning (LoggedHave P pages id) n (λ r l more has. has.1) log h
+
+  none_ready : P first → IsReady P (λ id. None) [] 0
+  none_ready has n id le at = record { page = λ page is. absurd (cc); logged = some_sources (λ id. None) id [] n (λ e none. has) }
 
   all_ready : (pages : Pages) (log : List DcRecord) (forced : ℕ) → AllHave P pages log → IsReady P pages log forced
   all_ready pages log forced all n id le at =
-      record { page = all.page id; logged = all_sources pages id log n all.first_leaf all.logged }
+      record {
+        page = all.page id;
+        logged = some_sources pages id log n (all_sources pages id log all.first_leaf all.logged);
+      }
 
   written_ready : (pages : Pages) (log : List DcRecord) (forced : ℕ) → IsLegal log → FitPages pages log forced
       → AreWritten P pages log → IsReady P pages log forced

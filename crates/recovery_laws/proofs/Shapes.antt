@@ -1,12 +1,13 @@
 -- The shape of a legal log.
-use Rattle.std.proofs.Common.{◌≡◌, ◌≢◌, ℕ, ◌<◌, List, [], ◌∷◌, length, Some, None, refl, sym, ap, ◌∙◌, arith, inl, inr, le-ltb, lt-ltb}
-use Rattle.std.proofs.lemmas.Bool.{cases_lt}
+use Rattle.std.proofs.Common.{◌≡◌, ◌≢◌, ℕ, ◌<◌, List, [], ◌∷◌, Some, None, refl, sym, ap, ◌∙◌, arith}
 use Rattle.record_key.specs.Table.{Bytes}
 use Rattle.codec.specs.declared.image.LeafImage.{LeafImage}
 use Rattle.codec.specs.declared.dc_record.DcRecord.{DcRecord}
 use Rattle.codec.specs.declared.dc_record.DcRecord.TheVariants.{Accept, Split, Merge}
 use Rattle.page.specs.Tiles.{Tile}
-use Rattle.recovery_laws.specs.Shape.{part_in, shape, named, beginning, FitsSplit, IsLegal, IsOnce}
+use Rattle.recovery_laws.specs.Shape.{part_in, shape, named, FitsSplit, IsLegal, IsOnce}
+use Rattle.framed_log.specs.Beginning.{beginning}
+use Rattle.framed_log.proofs.Beginning.{of_beginning}
 use Rattle.recovery_laws.specs.Laws.{ShapesAreWellFormed}
 use Rattle.recovery_laws.proofs.Finding.{none_in}
 use Rattle.recovery_laws.proofs.Splitting.{split_other, split_once, split_tile}
@@ -67,12 +68,10 @@ well_formed log legal = record {
 -- a number that isn't named yet had no part before either
 pub known_before : (log : List DcRecord) (n id : ℕ) → IsLegal log → named log < id
     → part_in id (shape (beginning log n)) ≡ None
-known_before [] n id legal above = known [] id legal above
-known_before (r ∷ log) n id legal above =
-    elim (cases_lt (length log) n) [
-      | inl less ↦ rw (lt-ltb (length log) n less) (known (r ∷ log) id legal above)
-      | inr ge ↦ rw (le-ltb (length log) n ge) (known_before log n id legal.1 (grown r log id legal above))
-    ]
+known_before log n id legal above =
+    let left = of_beginning (λ (l : List DcRecord). IsLegal l × (named l < id)) n
+    (λ r l more h. (h.0.1, grown r l id h.0 h.1)) log (legal, above) in
+    known (beginning log n) id left.0 left.1
   where
     grown : (r : DcRecord) (log : List DcRecord) (id : ℕ) → IsLegal (r ∷ log) → named (r ∷ log) < id → named log < id
     grown (Accept session) log id legal above = above

@@ -1,5 +1,5 @@
 -- Recovered leaves are as the log has them.
-use Rattle.std.proofs.Common.{◌≡◌, ◌⊎◌, ℕ, ◌+◌, ◌<◌, ◌≤◌, List, [], ◌∷◌, length, Some, None, refl, sym, ◌∙◌, subst, arith, inl, inr, le-ltb, lt-ltb}
+use Rattle.std.proofs.Common.{◌≡◌, ◌⊎◌, ℕ, ◌+◌, ◌<◌, ◌≤◌, List, [], ◌∷◌, length, Some, None, refl, sym, ap, ◌∙◌, subst, arith, inl, inr}
 use Rattle.std.proofs.lemmas.Bool.{cases_eq, cases_lt}
 use Rattle.record_key.specs.Table.{Bytes}
 use Rattle.codec.specs.declared.image.LeafImage.{LeafImage}
@@ -9,7 +9,9 @@ use Rattle.page.specs.Leaf.{LeafView, first}
 use Rattle.page.specs.Parting.{lower_of}
 use Rattle.page.specs.Tiles.{part_of}
 use Rattle.recovery_laws.specs.Images.{leaf_of}
-use Rattle.recovery_laws.specs.Shape.{part_in, shape, beginning, FitsSplit, FitsMerge, IsLegal}
+use Rattle.recovery_laws.specs.Shape.{part_in, shape, FitsSplit, FitsMerge, IsLegal}
+use Rattle.framed_log.specs.Beginning.{beginning}
+use Rattle.framed_log.proofs.Beginning.{whole, shorter}
 use Rattle.recovery_laws.specs.Recovery.{Pages, cut_again, merged_again, recovered, FitPages}
 use Rattle.recovery_laws.specs.Laws.{IsCurrent}
 use Rattle.recovery_laws.proofs.Finding.{part_own}
@@ -27,7 +29,8 @@ Agree pages log =
 
 pub agree_older : (pages : Pages) (r : DcRecord) (log : List DcRecord) → Agree pages (r ∷ log) → Agree pages log
 agree_older pages r log agree id page is le =
-    rw (le-ltb (length log) page.last le) at (agree id page is (omega (arith, le)))
+    subst (λ (l : List DcRecord). part_in id (shape l) ≡ Some (part_of page)) (shorter r log page.last le)
+    (agree id page is (omega (arith, le)))
 
 pub agrees : (pages : Pages) (log : List DcRecord) (forced : ℕ) → FitPages pages log forced → Agree pages log
 agrees pages log forced fit id page is le = (fit.each id page is).fences
@@ -46,7 +49,8 @@ page_sound pages r log id page agree is less =
       | inr le ↦
           inl
           (now_current r log id page (omega (arith, less, le))
-          (rw (lt-ltb (length log) page.last less) at (agree id page is le)))
+          (subst (λ (l : List DcRecord). part_in id (shape l) ≡ Some (part_of page))
+          (whole (r ∷ log) page.last (omega (arith, less))) (agree id page is le)))
     ]
 
 -- a leaf that a record doesn't change
@@ -148,9 +152,16 @@ first_sound pages id leaf agree s =
       | inl is ↦ elim (cases_lt 0 leaf.last) [
         | inl less ↦ inr (less, is)
         | inr le ↦
-            let at : part_in id (shape []) ≡ Some (part_of leaf) = agree id leaf is le in
-            inl
-            (record { own = part_own id (shape []) (part_of leaf) at; last = le; fences = at; written = at; seen = tt })
+            let written = agree id leaf is le in
+            let none : shape (beginning [] leaf.last) ≡ shape [] = ap shape (whole [] leaf.last (omega arith)) in
+            let at : part_in id (shape []) ≡ Some (part_of leaf) = ap (part_in id) (sym none) ∙ written in
+            inl (record {
+              own = part_own id (shape []) (part_of leaf) at;
+              last = le;
+              fences = at;
+              written = written;
+              seen = tt;
+            })
       ]
       | inr made ↦ subst (λ (x : LeafView). IsSound pages [] id x) made.1 (inl (first_current id s.0))
     ]

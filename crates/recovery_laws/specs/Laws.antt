@@ -9,7 +9,8 @@ use Rattle.page.specs.Honest.{IsHonestLeaf}
 use Rattle.page.specs.Parting.{lower_of}
 use Rattle.page.specs.Tiles.{part_of, parts_of, holds, IsInside, Tile}
 use Rattle.recovery_laws.specs.Images.{leaf_of}
-use Rattle.recovery_laws.specs.Shape.{part_in, shape, named, beginning, IsLegal, IsOnce}
+use Rattle.recovery_laws.specs.Shape.{part_in, shape, named, IsLegal, IsOnce}
+use Rattle.framed_log.specs.Beginning.{beginning}
 use Rattle.recovery_laws.specs.Recovery.{Pages, recovered, recover, FitPages}
 
 -- the shape's parts tile the keys, so each key is in exactly one; no number stands twice and none is above the

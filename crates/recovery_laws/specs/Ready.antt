@@ -13,7 +13,8 @@ use Rattle.page.specs.Honest.{IsHonestLeaf}
 use Rattle.page.specs.Parting.{lower_of, upper_of, joined_of}
 use Rattle.page.specs.Tiles.{part_of, IsInside}
 use Rattle.recovery_laws.specs.Images.{leaf_of, image_of}
-use Rattle.recovery_laws.specs.Shape.{part_in, next_id, shape, named, beginning, FitsSplit, FitsMerge, IsLegal}
+use Rattle.recovery_laws.specs.Shape.{part_in, next_id, shape, named, FitsSplit, FitsMerge, IsLegal}
+use Rattle.framed_log.specs.Beginning.{beginning}
 use Rattle.recovery_laws.specs.Recovery.{Pages, recovered, FitPages, written}
 use Rattle.recovery_laws.specs.Laws.{leaf_in, IsCurrent, SourcesHave}
 

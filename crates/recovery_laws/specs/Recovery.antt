@@ -7,7 +7,8 @@ use Rattle.page.specs.Leaf.{LeafView, first}
 use Rattle.page.specs.Parting.{lower_of}
 use Rattle.page.specs.Tiles.{Part, part_of}
 use Rattle.recovery_laws.specs.Images.{leaf_of}
-use Rattle.recovery_laws.specs.Shape.{part_in, shape, beginning}
+use Rattle.recovery_laws.specs.Shape.{part_in, shape}
+use Rattle.framed_log.specs.Beginning.{beginning}
 
 -- the last image of each leaf that was written
 abbrev pub Pages : Type 0

@@ -1,5 +1,5 @@
 -- Which leaf the data component's log gives which keys.
-use Rattle.std.specs.Prelude.{◌≡◌, ℕ, ◌+◌, ◌==◌, List, [], ◌∷◌, Option, Some, None, length, nat_lt, if◌then◌else◌}
+use Rattle.std.specs.Prelude.{◌≡◌, ℕ, ◌+◌, ◌==◌, List, [], ◌∷◌, Option, Some, None, length, if◌then◌else◌}
 use Rattle.record_key.specs.Table.{Bytes}
 use Rattle.codec.specs.declared.image.LeafImage.{LeafImage}
 use Rattle.codec.specs.declared.dc_record.DcRecord.{DcRecord}
@@ -64,11 +64,6 @@ named [] = 1
 named (is.Accept session ∷ log) = named log
 named (is.Split left cut right ∷ log) = right.id
 named (is.Merge left right merged ∷ log) = named log
-
--- the first records, so many
-abbrev pub beginning : List DcRecord → ℕ → List DcRecord
-beginning [] n = []
-beginning (r ∷ log) n = if nat_lt (length log) n then r ∷ log else beginning log n
 
 -- the left leaf is there and has the cut inside; the new leaf has the next number, this record's number, and
 -- the fences that the record gives it

@@ -8,19 +8,19 @@ use Rattle.history.specs.Legal.{IsLegal}
 use Rattle.log_laws.specs.Reading.{LacksAnswer}
 use Rattle.log_laws.proofs.Records.{within}
 use Rattle.log_laws.proofs.Checking.{lacks_number}
-use Rattle.logical_log.specs.Low.{stable_part as first_part}
+use Rattle.framed_log.specs.Beginning.{beginning}
 use Rattle.logical_log.specs.Replay.{IsAnalysis, TakesIn}
-use Rattle.logical_log.proofs.Answered.{part_whole}
+use Rattle.framed_log.proofs.Beginning.{everything, length_beginning}
 use Rattle.restart.specs.declared.findings.Findings.{Findings}
 use Rattle.restart.specs.Lists.{Lists}
 use Rattle.restart.specs.Plan.{HasCommit, AreMissing, IsFound, AreFindings, committed_by, lacking}
-use Rattle.restart.proofs.Passing.{part_more, legal_part, length_part, winners_more, missing_more}
+use Rattle.restart.proofs.Passing.{part_more, legal_part, winners_more, missing_more}
 
 -- of no records
 pub found_none : (log : List Record) (f : Findings) → IsAnalysis [] f.analysis → f.winners.items ≡ []
     → f.missing.items ≡ [] → IsFound log 0 f
 found_none log f analysis winners missing =
-    let none : first_part log 0 ≡ [] = nil_from_length (first_part log 0) (length_part log 0 (omega arith)) in
+    let none : beginning log 0 ≡ [] = nil_from_length (beginning log 0) (length_beginning log 0 (omega arith)) in
     record {
       analysis = subst (λ part. IsAnalysis part f.analysis) (sym none) analysis;
       winners = subst (λ part. Lists (HasCommit part) f.winners.items) (sym none)
@@ -43,15 +43,15 @@ module _ (log : List Record) (r : Record) (old new : Findings) (legal : IsLegal 
       → new.missing.items ≡ old.missing.items ++ lacking log (end + 1) → IsFound log (end + 1) new
   next end stands h takes missing =
       let number = within (λ x. x ≡ Some r) (λ f. cc) log (end + 1) stands in
-      let part : first_part log (end + 1) ≡ r ∷ first_part log end = part_more log end r stands in
-      let legal_now : IsLegal (r ∷ first_part log end) = subst IsLegal part (legal_part log (end + 1) legal) in
-      let count : length (first_part log end) ≡ end = length_part log end (omega (arith, number.bounded)) in
+      let part : beginning log (end + 1) ≡ r ∷ beginning log end = part_more log end r stands in
+      let legal_now : IsLegal (r ∷ beginning log end) = subst IsLegal part (legal_part log (end + 1) legal) in
+      let count : length (beginning log end) ≡ end = length_beginning log end (omega (arith, number.bounded)) in
       record {
         analysis = subst (λ p. IsAnalysis p new.analysis) (sym part)
-            (takes (first_part log end) h.analysis legal_now (omega (arith, count)));
+            (takes (beginning log end) h.analysis legal_now (omega (arith, count)));
         winners = subst (λ p. Lists (HasCommit p) new.winners.items) (sym part)
-            (subst (Lists (HasCommit (r ∷ first_part log end))) (sym winners)
-            (winners_more r (first_part log end) old.winners.items legal_now.0 h.winners));
+            (subst (Lists (HasCommit (r ∷ beginning log end))) (sym winners)
+            (winners_more r (beginning log end) old.winners.items legal_now.0 h.winners));
         missing = subst (AreMissing log (end + 1)) (sym missing)
             (missing_more log end old.missing.items h.missing);
       }
@@ -74,7 +74,7 @@ found_all log f h =
     let P : List Record → Type 0 = λ p. IsAnalysis p f.analysis in
     let Q : List Record → Type 0 = λ p. Lists (HasCommit p) f.winners.items in
     record {
-      analysis = subst P (part_whole log) h.analysis;
-      winners = subst Q (part_whole log) h.winners;
+      analysis = subst P (everything log) h.analysis;
+      winners = subst Q (everything log) h.winners;
       missing = h.missing;
     }

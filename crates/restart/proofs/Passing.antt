@@ -1,12 +1,12 @@
 -- One pass over a log: what was found so far is right again after each record.
-use Rattle.std.proofs.Common.{◌≡◌, ℕ, ◌+◌, ◌-◌, ◌<◌, ◌≤◌, ◌⊎◌, Bool, true, false, List, [], ◌∷◌, ◌++◌, length, drop, take, get_or, Some, is_some, refl, sym, ap, ◌∙◌, subst, arith, inl, inr, true≢false}
+use Rattle.std.proofs.Common.{◌≡◌, ℕ, ◌+◌, ◌-◌, ◌<◌, ◌⊎◌, Bool, true, false, List, [], ◌∷◌, ◌++◌, length, drop, get_or, Some, is_some, refl, sym, ap, ◌∙◌, subst, arith, inl, inr, true≢false}
 use Rattle.std.specs.Prelude.{◌&&◌, not, if◌then◌else◌}
 use Rattle.std.specs.List.{All}
 use Rattle.std.specs.List.Sorted.{IsStrictlyIncreasing}
 use Rattle.std.proofs.Math.ListN.{get_or-append}
 use Rattle.std.proofs.Math.Seq.{get_or-append_seam}
 use Rattle.std.proofs.lemmas.Bool.{cases_eq, cases_lt}
-use Rattle.std.proofs.lemmas.List.{length-append, length-drop, take-append-drop, append-nil}
+use Rattle.std.proofs.lemmas.List.{length-append, append-nil}
 use Rattle.std.proofs.lemmas.List.Elements.{All-weaker}
 use Rattle.history.specs.declared.record.Record.{Record}
 use Rattle.history.specs.declared.record.Record.TheVariants as is
@@ -14,18 +14,17 @@ use Rattle.history.specs.Log.{record_at, answer_of, request_in}
 use Rattle.history.specs.Legal.{Fits, IsLegal}
 use Rattle.log_laws.specs.Reading.{LacksAnswer}
 use Rattle.log_laws.proofs.Records.{newest_at, older_at, within, record_new}
-use Rattle.log_laws.proofs.LegalLogs.{legal_end}
 use Rattle.log_laws.proofs.Strict.{end_ends}
-use Rattle.logical_log.proofs.Answered.{part_longer}
+use Rattle.framed_log.proofs.Beginning.{shorter, of_beginning}
 use Rattle.logical_log.proofs.Checkpointed.{named_back, named_kept, named_had}
-use Rattle.logical_log.specs.Low.{stable_part as first_part}
+use Rattle.framed_log.specs.Beginning.{beginning}
 use Rattle.restart.specs.Lists.{Lists}
 use Rattle.restart.specs.Plan.{HasCommit, AreMissing, committed_by, lacking}
 use Rattle.restart.proofs.Lists.{lists_same, lists_more, at_end}
 
 -- the first records and the next one
 pub part_more : (log : List Record) (n : ℕ) (r : Record) → record_at log (n + 1) ≡ Some r
-    → first_part log (n + 1) ≡ r ∷ first_part log n
+    → beginning log (n + 1) ≡ r ∷ beginning log n
 part_more [] n r is = absurd (cc)
 part_more (q ∷ log) n r is =
     elim (cases_eq n (length log)) [
@@ -40,17 +39,12 @@ part_more (q ∷ log) n r is =
           let was : record_at log (n + 1) ≡ Some r = older_at (λ x. x ≡ Some r) q log (n + 1) (λ f. e (omega arith))
           is in
           let number = within (λ x. x ≡ Some r) (λ f. cc) log (n + 1) was in
-          part_longer q log (n + 1) number.bounded ∙ part_more log n r was
-          ∙ ap (λ rest. r ∷ rest) (sym (part_longer q log n (omega (arith, number.bounded))))
+          shorter q log (n + 1) number.bounded ∙ part_more log n r was
+          ∙ ap (λ rest. r ∷ rest) (sym (shorter q log n (omega (arith, number.bounded))))
     ]
 
-pub legal_part : (log : List Record) (n : ℕ) → IsLegal log → IsLegal (first_part log n)
-legal_part log n legal =
-    legal_end (take (length log - n) log) (first_part log n)
-    (subst IsLegal (sym (take-append-drop (length log - n) log)) legal)
-
-pub length_part : (log : List Record) (n : ℕ) → n ≤ length log → length (first_part log n) ≡ n
-length_part log n within = length-drop (length log - n) log ∙ omega (arith, within)
+pub legal_part : (log : List Record) (n : ℕ) → IsLegal log → IsLegal (beginning log n)
+legal_part log n legal = of_beginning IsLegal n (λ r l more h. h.1) log legal
 
 -- winners
 

@@ -8,7 +8,7 @@ use Rattle.history.specs.Legal.{IsLatestOrNone}
 use Rattle.log_laws.specs.Reading.{LacksAnswer}
 use Rattle.logical_log.specs.Checkpointed.{IsCheckpointed}
 use Rattle.logical_log.specs.Index.{lacks_answer}
-use Rattle.logical_log.specs.Low.{stable_part as first_part}
+use Rattle.framed_log.specs.Beginning.{beginning}
 use Rattle.logical_log.specs.Replay.{IsAnalysis}
 use Rattle.restart.specs.Lists.{Lists}
 use Rattle.restart.specs.declared.findings.Findings.{Findings}
@@ -39,8 +39,8 @@ lacking log n = if lacks_answer log n then n ∷ [] else []
 
 -- what is found once the first records were read, up to this number
 pub record IsFound (log : List Record) (end : ℕ) (f : Findings) : Type 0 where
-  pub analysis : IsAnalysis (first_part log end) f.analysis
-  pub winners : Lists (HasCommit (first_part log end)) f.winners.items
+  pub analysis : IsAnalysis (beginning log end) f.analysis
+  pub winners : Lists (HasCommit (beginning log end)) f.winners.items
   pub missing : AreMissing log end f.missing.items
 
 -- what is found in all records

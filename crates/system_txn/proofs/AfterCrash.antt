@@ -1,6 +1,5 @@
 -- What a crash leaves is as it must be: every leaf that recovery gives has what pages and logged leaves have.
-use Rattle.std.proofs.Common.{◌≡◌, ℕ, ◌<◌, ◌≤◌, ◌^◌, Bool, true, false, List, [], ◌∷◌, length, Option, Some, None, refl, sym, ap, ◌∙◌, subst, arith}
-use Rattle.std.specs.Prelude.{nat_lt, if◌then◌else◌}
+use Rattle.std.proofs.Common.{◌≡◌, ℕ, ◌<◌, ◌≤◌, ◌^◌, List, [], ◌∷◌, length, Option, Some, None, refl, sym, ap, ◌∙◌, subst, arith}
 use Rattle.std.specs.List.{AllByRecursion}
 use Rattle.std.specs.FinMap as table
 use Rattle.codec.specs.declared.image.LeafImage.{LeafImage}
@@ -22,7 +21,9 @@ use Rattle.recovery_laws.specs.Leaves.{AreCurrent}
 use Rattle.recovery_laws.specs.Ready.{IsReady, AllHave}
 use Rattle.recovery_laws.specs.Recovery as recovery
 use Rattle.recovery_laws.specs.Recovery.{recovered, leaves_of, recover, with_leaf, FitPages}
-use Rattle.recovery_laws.specs.Shape.{IsLegal, shape, named, beginning}
+use Rattle.recovery_laws.specs.Shape.{IsLegal, shape, named}
+use Rattle.framed_log.specs.Beginning.{beginning}
+use Rattle.framed_log.proofs.Beginning.{of_beginning}
 use Rattle.recovery_laws.proofs.Beginnings.{legal_beginning}
 use Rattle.recovery_laws.proofs.Fitting.{fit_beginning}
 use Rattle.recovery_laws.proofs.Images.{leaf_again, images_keep_leaves, numbers_stay}
@@ -68,12 +69,7 @@ all_recovered P pages log forced n keeps legal fit le have =
 -- what each record has, those of a beginning have
 pub all_beginning : (P : DcRecord → Type 0) (log : List DcRecord) (n : ℕ) → AllByRecursion P log
     → AllByRecursion P (beginning log n)
-all_beginning P [] n all = tt
-all_beginning P (r ∷ log) n all = by (nat_lt (length log) n) (all_beginning P log n all.1)
-  where
-    by : (b : Bool) → AllByRecursion P (beginning log n) → AllByRecursion P (if b then r ∷ log else beginning log n)
-    by true rest = all
-    by false rest = rest
+all_beginning P log n all = of_beginning (AllByRecursion P) n (λ r l more h. h.1) log all
 
 pub have_beginning : (P : LeafView → Type 0) (pages : recovery.Pages) (log : List DcRecord) (n : ℕ)
     → AllHave P pages log → AllHave P pages (beginning log n)
@@ -143,22 +139,13 @@ named_older (is.Split left cut right) log legal = omega (arith, legal.0.next)
 named_older (is.Merge left right merged) log legal = omega arith
 
 pub named_shorter : (log : List DcRecord) (n : ℕ) → IsLegal log → named (beginning log n) ≤ named log
-named_shorter [] n legal = omega arith
-named_shorter (r ∷ log) n legal = by (nat_lt (length log) n) (named_shorter log n legal.1)
-  where
-    by : (b : Bool) → named (beginning log n) ≤ named log
-        → named (if b then r ∷ log else beginning log n) ≤ named (r ∷ log)
-    by true less = omega arith
-    by false less = omega (arith, less, named_older r log legal)
+named_shorter log n legal =
+    (of_beginning (λ (l : List DcRecord). IsLegal l × (named l ≤ named log)) n
+    (λ r l more h. (h.0.1, omega (arith, h.1, named_older r l h.0))) log (legal, omega arith)).1
 
 length_shorter : (log : List DcRecord) (n : ℕ) → length (beginning log n) ≤ length log
-length_shorter [] n = omega arith
-length_shorter (r ∷ log) n = by (nat_lt (length log) n) (length_shorter log n)
-  where
-    by : (b : Bool) → length (beginning log n) ≤ length log
-        → length (if b then r ∷ log else beginning log n) ≤ length (r ∷ log)
-    by true less = omega arith
-    by false less = omega (arith, less)
+length_shorter log n =
+    of_beginning (λ (l : List DcRecord). length l ≤ length log) n (λ r l more h. omega (arith, h)) log (omega arith)
 
 -- numbers of a leaf whose last change is among so many records
 numbered : (log : List DcRecord) (leaf : LeafView) → length log < 2 ^ 48 → IsCurrent log leaf.id leaf → IsSound leaf

@@ -1,5 +1,5 @@
 -- Reading one record after another, from the beginning of the bytes.
-use Rattle.std.proofs.Common.{◌≡◌, ℕ, ◌+◌, ◌<◌, ◌^◌, true, List, [], ◌∷◌, ◌++◌, length, drop, reverse, refl, sym, ap, ◌∙◌, subst, arith, inl, inr, append_assoc}
+use Rattle.std.proofs.Common.{◌≡◌, ℕ, ◌+◌, ◌<◌, ◌^◌, true, List, [], ◌∷◌, ◌++◌, length, drop, reverse, refl, sym, ap, ◌∙◌, subst, arith, inl, inr}
 use Rattle.std.proofs.lemmas.List.{length-append, reverse-append, drop_at}
 use Rattle.record_key.specs.declared.refusal.Refusal.{Refusal}
 use Rattle.record_key.specs.declared.refusal.Refusal.TheVariants.{BadBytes}
@@ -8,17 +8,21 @@ use Rattle.codec.specs.DcRecords.{dc_record_bytes, IsDcRecord, FitsFrame}
 use Rattle.codec.specs.Fields.{number}
 use Rattle.codec.specs.Frames.{frame, IsThere}
 use Rattle.codec.proofs.Fields.{length-number}
+use Rattle.framed_log.specs.Opening.{BeginsAs, BeginsWithFrame, IsNoFrame}
+use Rattle.framed_log.specs.Spelled as framed
+use Rattle.framed_log.proofs.Spelled.{newest_last}
 use Rattle.stable.specs.PagesState.{Pages}
 use Rattle.system_txn.specs.declared.reading.Reading.{Reading}
-use Rattle.system_txn.specs.Devices.{spelled, places, pages_of}
+use Rattle.recovery_laws.specs.Ready.{AreReadable}
+use Rattle.system_txn.specs.Devices.{framing, spelled, places, pages_of}
 use Rattle.system_txn.specs.Known.{may_follow, IsKnown}
 use Rattle.system_txn.specs.Reading.{log_so_far, IsReading, RefusesNext}
-use Rattle.system_txn.specs.Recovering.{BeginsWithFrame, IsNoFrame, RefusesFrames}
+use Rattle.system_txn.specs.Recovering.{RefusesFrames}
 use Rattle.system_txn.proofs.Lives.{readable_next, unreadable_next}
 
 pub reading_nothing : (reading : Reading) → reading.records.items ≡ [] → reading.places.items ≡ [] → reading.end ≡ 0
     → IsKnown [] reading.known → IsReading [] reading
-unfolding spelled places
+unfolding framed.spelled framed.places
 reading_nothing reading records begins end known = record {
   records_are = ap reverse records;
   spellable = tt;
@@ -35,7 +39,7 @@ pub reading_more : (old new : Reading) (r : DcRecord) → IsReading (log_so_far 
     → new.records.items ≡ old.records.items ++ r ∷ [] → new.places.items ≡ old.places.items ++ old.end ∷ []
     → new.end ≡ old.end + length (frame (dc_record_bytes r)) → IsKnown (r ∷ log_so_far old) new.known
     → IsReading (r ∷ log_so_far old) new
-unfolding spelled places
+unfolding framed.spelled framed.places
 reading_more old new r h fits may room records begins end known = record {
   records_are = ap reverse records ∙ reverse-append old.records.items (r ∷ []);
   spellable = (fits, h.spellable);
@@ -54,7 +58,7 @@ pub record HasRead (bytes : List ℕ) (reading : Reading) : Type 0 where
   pub parts : bytes ≡ spelled (log_so_far reading) ++ drop reading.end bytes
 
 pub read_nothing : (bytes : List ℕ) (reading : Reading) → IsReading [] reading → HasRead bytes reading
-unfolding spelled
+unfolding framed.spelled
 read_nothing bytes reading h =
     let P : List DcRecord → Type 0 = λ log. IsReading log reading × (bytes ≡ spelled log ++ drop reading.end bytes) in
     let start : drop reading.end bytes ≡ bytes = ap (λ (n : ℕ). drop n bytes) h.end_is in
@@ -86,13 +90,12 @@ left_after : (bytes : List ℕ) (old new : Reading) (r : DcRecord) (next : ℕ) 
     → IsNext bytes old r next → IsReading (r ∷ log_so_far old) new
     → (bytes ≡ spelled (r ∷ log_so_far old) ++ drop new.end bytes)
     × (drop old.end bytes ≡ frame (dc_record_bytes r) ++ drop new.end bytes)
-unfolding spelled
 left_after bytes old new r next h there after =
     let f : List ℕ = frame (dc_record_bytes r) in
     let rest : List ℕ = drop (length f) (drop old.end bytes) in
     let parts : bytes ≡ spelled (r ∷ log_so_far old) ++ rest =
     h.parts ∙ ap (λ (l : List ℕ). spelled (log_so_far old) ++ l) there.parts
-    ∙ sym (append_assoc (spelled (log_so_far old)) f rest) in
+    ∙ sym (newest_last framing r (log_so_far old) rest) in
     let left : drop new.end bytes ≡ rest =
     ap (drop new.end) parts ∙ drop_at (spelled (r ∷ log_so_far old)) rest new.end (sym after.end_is) in (
       parts ∙ ap (λ (l : List ℕ). spelled (r ∷ log_so_far old) ++ l) (sym left),
@@ -122,6 +125,16 @@ less_left bytes old new r next h there after =
       length-number (length body),
     )
 
+-- they are those of a readable log
+begins_as : (bytes : List ℕ) (reading : Reading) (pages : Pages) → HasRead bytes reading
+    → BeginsAs framing (AreReadable (pages_of pages)) bytes (log_so_far reading) (drop reading.end bytes)
+begins_as bytes reading pages h = record {
+  records = h.right.spellable;
+  good = h.right.readable pages;
+  numbered = h.right.numbered;
+  parts = h.parts;
+}
+
 -- the record that stands next isn't taken in
 pub refused_next : (bytes : List ℕ) (reading : Reading) (r : DcRecord) (next : ℕ) (given : Refusal) (pages : Pages)
     → length bytes < 2 ^ 64 → HasRead bytes reading → IsNext bytes reading r next
@@ -129,7 +142,7 @@ pub refused_next : (bytes : List ℕ) (reading : Reading) (r : DcRecord) (next :
 refused_next bytes reading r next given pages small h there (inl none) = inl none
 refused_next bytes reading r next given pages small h there (inr bad) =
     let log : List DcRecord = log_so_far reading in
-    let stands : BeginsWithFrame (drop reading.end bytes) r = record {
+    let stands : BeginsWithFrame framing (drop reading.end bytes) r = record {
       fits = fits_among bytes reading r next small h there;
       rest = drop (length (frame (dc_record_bytes r))) (drop reading.end bytes);
       parts = there.parts;
@@ -139,11 +152,8 @@ refused_next bytes reading r next given pages small h there (inr bad) =
       bad.0,
       record {
         log = log;
-        records = h.right.spellable;
-        readable = h.right.readable pages;
-        numbered = h.right.numbered;
         left = drop reading.end bytes;
-        parts = h.parts;
+        begins = begins_as bytes reading pages h;
         place_is = refl;
         bad = inr (record {
           next = r;
@@ -158,18 +168,15 @@ refused_next bytes reading r next given pages small h there (inr bad) =
 
 -- no record stands next, and no frame is cut there
 pub refused_here : (bytes : List ℕ) (reading : Reading) (given : Refusal) (pages : Pages) → HasRead bytes reading
-    → given ≡ BadBytes reading.end → IsNoFrame (drop reading.end bytes) → RefusesFrames bytes pages given
+    → given ≡ BadBytes reading.end → IsNoFrame framing (drop reading.end bytes) → RefusesFrames bytes pages given
 refused_here bytes reading given pages h is none =
     inr (
       reading.end,
       is,
       record {
         log = log_so_far reading;
-        records = h.right.spellable;
-        readable = h.right.readable pages;
-        numbered = h.right.numbered;
         left = drop reading.end bytes;
-        parts = h.parts;
+        begins = begins_as bytes reading pages h;
         place_is = h.right.end_is;
         bad = inl none;
       },

@@ -5,11 +5,14 @@ use Rattle.codec.specs.declared.dc_record.DcRecord.{DcRecord}
 use Rattle.codec.specs.DcRecords.{dc_record_bytes, FitsFrame}
 use Rattle.codec.specs.Frames.{frame}
 use Rattle.stable.specs.Crash.{BeginsWith}
-use Rattle.recovery_laws.specs.Shape.{named, beginning}
+use Rattle.recovery_laws.specs.Shape.{named}
+use Rattle.framed_log.specs.Beginning.{beginning}
 use Rattle.system_txn.specs.Devices.{spelled, places, records_at}
 use Rattle.system_txn.specs.LogView.{IsStored, AreFrames}
-use Rattle.system_txn.proofs.Spelled.{read_back}
-use Rattle.recovery_laws.proofs.Beginnings.{whole, shorter}
+use Rattle.framed_log.specs.Spelled as framed
+use Rattle.framed_log.proofs.Spelled.{read_back}
+use Rattle.system_txn.proofs.ReadOnce.{log_framing}
+use Rattle.framed_log.proofs.Beginning.{everything, shorter}
 
 -- both halves of what holds of the log
 abbrev pub IsKept : Bool → List DcRecord → ℕ → List ℕ → List ℕ → List ℕ → ℕ → ℕ → Type 0
@@ -21,7 +24,7 @@ pub same_log : (w : Bool) (log : List DcRecord) (stable : ℕ) (forced pending b
     → IsKept w log stable forced pending begins end next_id → records_at (forced ++ pending) begins ≡ log
 same_log w log stable forced pending begins end next_id h =
     ap (λ (b : List ℕ). records_at b begins) (h.0.stored ∙ sym (append-nil (spelled log)))
-    ∙ ap (records_at (spelled log ++ [])) h.1.begins_are ∙ read_back log [] h.1.spellable
+    ∙ ap (records_at (spelled log ++ [])) h.1.begins_are ∙ read_back log_framing log [] h.1.spellable
 
 -- so it holds of what is seen
 pub kept_so : (w : Bool) (log : List DcRecord) (stable : ℕ) (forced pending begins : List ℕ) (end next_id : ℕ)
@@ -33,7 +36,7 @@ kept_so w log stable forced pending begins end next_id h =
 
 -- a log of no records
 pub kept_empty : (w : Bool) (forced pending : List ℕ) → forced ≡ [] → pending ≡ [] → IsKept w [] 0 forced pending [] 0 2
-unfolding spelled places
+unfolding framed.spelled framed.places
 kept_empty w forced pending f p = (
   record {
     within = omega arith;
@@ -50,7 +53,7 @@ pub kept_longer : (w : Bool) (log : List DcRecord) (stable : ℕ) (forced pendin
     → IsKept w log stable forced pending begins end next_id → FitsFrame r → next ≡ named (r ∷ log) + 1
     → IsKept w (r ∷ log) stable forced (pending ++ frame (dc_record_bytes r)) (begins ++ end ∷ [])
     (end + length (frame (dc_record_bytes r))) next
-unfolding spelled places
+unfolding framed.spelled framed.places
 kept_longer w log stable forced pending begins end next_id r next h fits is = (
   record {
     within = omega (arith, h.0.within);
@@ -79,10 +82,10 @@ kept_stable w log forced pending begins end next_id all none frames = (
     stored = ap (λ (x : List ℕ). forced ++ x) none ∙ append-nil forced ∙ all;
     covered = (
       [],
-      all ∙ ap spelled (sym (whole log (length log) (omega arith)))
+      all ∙ ap spelled (sym (everything log))
           ∙ sym (append-nil (spelled (beginning log (length log)))),
     );
-    just = λ _. all ∙ ap spelled (sym (whole log (length log) (omega arith)));
+    just = λ _. all ∙ ap spelled (sym (everything log));
   },
   frames,
 )

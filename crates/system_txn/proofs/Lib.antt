@@ -28,7 +28,6 @@ pub mod Replacing
 pub mod Replayed
 pub mod Restarting
 pub mod Shelves
-pub mod Spelled
 pub mod Spelling
 pub mod Used
 pub mod Within

@@ -14,7 +14,8 @@ use Rattle.recovery_laws.specs.Shape.{named}
 use Rattle.system_txn.specs.Devices.{AreRecords, pages_of}
 use Rattle.system_txn.specs.Replaying.{HoldsPages, HoldsRecovered, recovered_or}
 use Rattle.system_txn.specs.Shelf.{Slot, leaf_on, redone, HasPlaces}
-use Rattle.system_txn.proofs.ReadOnce.{older_records}
+use Rattle.codec.specs.DcRecords.{FitsFrame}
+use Rattle.framed_log.proofs.ReadOnce.{all_older}
 use Rattle.system_txn.proofs.Knowing.{known_some, older_readable, older_named}
 
 -- a log that may be done again with so many places
@@ -25,7 +26,7 @@ pub record FitsPlaces (log : List DcRecord) (count : ℕ) : Type 0 where
 
 older_fits : (newer older : List DcRecord) (count : ℕ) → FitsPlaces (newer ++ older) count → FitsPlaces older count
 older_fits newer older count fits = record {
-  records = older_records newer older fits.records;
+  records = all_older FitsFrame newer older fits.records;
   readable = λ pages. older_readable (pages_of pages) newer older (fits.readable pages);
   places = omega (arith, fits.places, older_named (pages_of table.empty) newer older (fits.readable table.empty));
 }

@@ -1,11 +1,8 @@
 -- What is opened from devices that a crash left.
-use Rattle.std.proofs.Common.{◌≡◌, ℕ, ◌+◌, ◌<◌, ◌^◌, List, [], ◌∷◌, ◌++◌, length, Option, Some, sym, ap, ◌∙◌, subst, arith, inl, inr}
+use Rattle.std.proofs.Common.{◌≡◌, ℕ, List, [], ◌∷◌, ◌++◌, length, Option, Some, sym, ap, ◌∙◌, subst, arith, inl, inr}
 use Rattle.std.specs.FinMap as table
-use Rattle.std.proofs.lemmas.List.{length-append}
 use Rattle.codec.specs.declared.dc_record.DcRecord.{DcRecord}
-use Rattle.codec.specs.DcRecords.{dc_record_bytes, FitsFrame}
-use Rattle.codec.specs.Frames.{any_length, IsCut}
-use Rattle.codec.proofs.ReadOnce.{GoesOn, ends, goes_on, what_follows, uncut}
+use Rattle.framed_log.proofs.Opened.{MayAllFollow, none_bad}
 use Rattle.stable.specs.PagesState.{Pages}
 use Rattle.page.specs.Leaf.{LeafView}
 use Rattle.recovery_laws.specs.Shape.{IsLegal}
@@ -18,10 +15,10 @@ use Rattle.recovery_laws.proofs.Beginnings.{legal_beginning}
 use Rattle.recovery_laws.proofs.Fitting.{fit_stays}
 use Rattle.recovery_laws.proofs.Leaves.{leaves_are_the_shapes}
 use Rattle.recovery_laws.proofs.Readable.{readable}
-use Rattle.system_txn.specs.Devices.{spelled, IsPage, pages_of}
-use Rattle.system_txn.specs.Recovering.{HoldsFrames, AreOwnPages, IsBadFrame, AreBadPages, IsUnfit}
+use Rattle.system_txn.specs.Devices.{IsPage, pages_of}
+use Rattle.system_txn.specs.Recovering.{HoldsFrames, AreOwnPages, AreBadPages}
 use Rattle.system_txn.specs.Restarts.{RestartsGiveTheLog, RestartsAreNeverBad, BeginningsAreRecoverable}
-use Rattle.system_txn.proofs.ReadOnce.{log_spelling, frames_read_once}
+use Rattle.system_txn.proofs.ReadOnce.{log_framing, frames_read_once}
 use Rattle.system_txn.proofs.PageReading.{image_found}
 
 -- ---- what is opened
@@ -58,41 +55,9 @@ older_readable : (pages : ℕ → Option LeafView) (newer older : List DcRecord)
 older_readable pages [] older all = all
 older_readable pages (r ∷ newer) older all = older_readable pages newer older all.1
 
--- the next record of a legal log fits, and has a number
-next_fits : (pages : Pages) (log other : List DcRecord) (rest left : List ℕ) → IsLegal log → length log < 2 ^ 48
-    → GoesOn DcRecord dc_record_bytes FitsFrame spelled log other rest left → IsUnfit pages other left → ⊥
-next_fits pages log other rest left legal room on unfit =
-    let same = log_spelling.one_frame unfit.next on.next unfit.stands.rest (spelled on.newer ++ rest)
-    unfit.stands.fits on.fits (sym unfit.stands.parts ∙ on.first) in
-    let all : AreReadable (pages_of pages) (on.newer ++ on.next ∷ other) =
-    readable (pages_of pages) (on.newer ++ on.next ∷ other) (subst IsLegal on.all legal) in
-    elim unfit.unfit [
-      | inl wrong ↦
-          wrong (subst (IsReadable (pages_of pages) other) (sym same.0)
-          (older_readable (pages_of pages) on.newer (on.next ∷ other) all).0)
-      | inr spent ↦
-          let count : length log ≡ length on.newer + length (on.next ∷ other) =
-          ap length on.all ∙ length-append on.newer (on.next ∷ other) in
-          absurd (omega (arith, spent, count, room))
-    ]
-
--- so no frame of a legal log is bad
-frames_good : (bytes : List ℕ) (pages : Pages) (log : List DcRecord) (place : ℕ) → IsLegal log → length log < 2 ^ 48
-    → HoldsFrames bytes log → IsBadFrame bytes pages place → ⊥
-frames_good bytes pages log place legal room h b =
-    elim (what_follows log_spelling log b.log h.left b.left h.records b.records h.cut (sym h.parts ∙ b.parts)) [
-      | ends is end ↦ elim b.bad [
-        | inl wrong ↦ wrong.uncut (subst (IsCut any_length) (sym end) h.cut)
-        | inr unfit ↦
-            uncut log_spelling unfit.next h.left unfit.stands.rest unfit.stands.fits (sym end ∙ unfit.stands.parts)
-            h.cut
-      ]
-      | goes_on on ↦ elim b.bad [
-        | inl wrong ↦
-            wrong.none on.next (record { fits = on.fits; rest = spelled on.newer ++ h.left; parts = on.first })
-        | inr unfit ↦ next_fits pages log b.log h.left b.left legal room on unfit
-      ]
-    ]
+-- each record of a readable log may follow those before it
+readable_each : (pages : ℕ → Option LeafView) → MayAllFollow (AreReadable pages) (IsReadable pages)
+readable_each pages newer r older all = (older_readable pages newer (r ∷ older) all).0
 
 -- images of leaves that fit the log are images of their own leaves
 own_pages : (pages : Pages) (log : List DcRecord) (forced : ℕ) → FitPages (pages_of pages) log forced
@@ -124,7 +89,8 @@ pub never_bad : RestartsAreNeverBad
 never_bad bytes pages log forced r legal fit images room h (inl device) = inr device
 never_bad bytes pages log forced r legal fit images room h (inr (inl (inl memory))) = inl memory
 never_bad bytes pages log forced r legal fit images room h (inr (inl (inr (place, is, bad)))) =
-    absurd (frames_good bytes pages log place legal room h bad)
+    absurd (none_bad log_framing (AreReadable (pages_of pages)) (IsReadable (pages_of pages)) bytes log place
+    (readable_each (pages_of pages)) (readable (pages_of pages) log legal) room h bad)
 never_bad bytes pages log forced r legal fit images room h (inr (inr (is, bad))) =
     absurd (pages_good bytes pages log forced legal fit images h bad)
 

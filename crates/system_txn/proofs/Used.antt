@@ -4,7 +4,8 @@ use Rattle.std.specs.Prelude.{IsTrue}
 use Rattle.record_key.specs.declared.refusal.Refusal.{Refusal}
 use Rattle.record_key.specs.declared.refusal.Refusal.TheVariants.{NoMemory, Device}
 use Rattle.stable.specs.Usage.{Usage, is_due, failed, called_often}
-use Rattle.system_txn.specs.Uses.{refused_use, FailsWhenDue, UsesUpTo, StopsWithin}
+use Rattle.framed_log.specs.Refused.{refused_use}
+use Rattle.system_txn.specs.Uses.{FailsWhenDue, UsesUpTo, StopsWithin}
 
 -- ---- one call
 

@@ -3,7 +3,7 @@ use Rattle.std.specs.Prelude.{ℕ, List, length}
 use Rattle.codec.specs.declared.dc_record.DcRecord.{DcRecord}
 use Rattle.stable.specs.PagesState.{Pages}
 use Rattle.stable.specs.Usage.{Usage}
-use Rattle.recovery_laws.specs.Shape.{beginning}
+use Rattle.framed_log.specs.Beginning.{beginning}
 use Rattle.recovery_laws.specs.Recovery.{recover}
 use Rattle.system_txn.specs.Devices.{pages_of}
 use Rattle.system_txn.specs.SystemView.{SystemView}

@@ -1,13 +1,10 @@
 -- The log of the data component: what is seen of it, and what holds of it.
 use Rattle.std.specs.Prelude.{◌≡◌, ℕ, ◌+◌, ◌≤◌, Bool, true, List, ◌++◌, length}
-use Rattle.record_key.specs.declared.refusal.Refusal.{Refusal}
-use Rattle.record_key.specs.declared.refusal.Refusal.TheVariants.{NoMemory, Device}
 use Rattle.codec.specs.declared.dc_record.DcRecord.{DcRecord}
 use Rattle.stable.specs.Crash.{BeginsWith}
-use Rattle.stable.specs.declared.error.DeviceError.{DeviceError}
-use Rattle.stable.specs.declared.error.DeviceError.TheVariants as device
 use Rattle.stable.specs.Usage.{Usage}
-use Rattle.recovery_laws.specs.Shape.{named, beginning}
+use Rattle.recovery_laws.specs.Shape.{named}
+use Rattle.framed_log.specs.Beginning.{beginning}
 use Rattle.system_txn.specs.Devices.{spelled, places, AreRecords}
 
 -- the records, the newest first, how many of them are stable, and how the device was used
@@ -30,8 +27,3 @@ pub record AreFrames (log : List DcRecord) (begins : List ℕ) (end next_id : �
   pub begins_are : begins ≡ places log
   pub end_is : end ≡ length (spelled log)
   pub next_is : next_id ≡ named log + 1
-
--- the refusal that a device's error is answered with
-abbrev pub refusal_from : DeviceError → Refusal
-refusal_from device.NoMemory = NoMemory
-refusal_from device.Device = Device

@@ -7,10 +7,12 @@ use Rattle.codec.specs.declared.dc_record.DcRecord.{DcRecord}
 use Rattle.stable.specs.Crash.{MayLeave}
 use Rattle.stable.specs.PagesState.{Pages}
 use Rattle.page.specs.Leaf.{LeafView}
-use Rattle.recovery_laws.specs.Shape.{beginning, IsLegal}
+use Rattle.recovery_laws.specs.Shape.{IsLegal}
+use Rattle.framed_log.specs.Beginning.{beginning}
+use Rattle.framed_log.specs.Crashed.{LeavesBeginning}
 use Rattle.recovery_laws.specs.Recovery.{recover, FitPages}
 use Rattle.recovery_laws.specs.Laws.{IsSafeBeginning}
-use Rattle.system_txn.specs.Devices.{spelled, AreRecords, IsPage, pages_of}
+use Rattle.system_txn.specs.Devices.{framing, spelled, AreRecords, IsPage, pages_of}
 use Rattle.system_txn.specs.LogView.{IsStored}
 use Rattle.system_txn.specs.SystemView.{SystemView}
 use Rattle.system_txn.specs.Kept.{IsRecoverable}
@@ -19,20 +21,11 @@ use Rattle.system_txn.specs.Crashed.{crashed}
 use Rattle.system_txn.specs.Gives.{CheckpointGives}
 use Rattle.system_txn.specs.Recovering.{HoldsFrames, Recovers, RefusesRecovery}
 
--- the bytes are the whole frames of a beginning of the log: of all stable records, and of each one more whose frame
--- there is room for; of the next one's frame a part may stand there
-pub record LeavesBeginning (log : List DcRecord) (stable : ℕ) (left : List ℕ) : Type 0 where
-  pub count : ℕ
-  pub stable_left : stable ≤ count
-  pub within : count ≤ length log
-  pub frames : HoldsFrames left (beginning log count)
-  pub most : (m : ℕ) → m ≤ length log → length (spelled (beginning log m)) ≤ length left → m ≤ count
-
 -- a crash leaves whole frames, and perhaps a cut one
 abbrev pub CrashesLeaveFrames : Type 0
 CrashesLeaveFrames =
     (whole : Bool) (log : List DcRecord) (stable : ℕ) (forced pending left : List ℕ) → AreRecords log
-    → IsStored whole log stable forced pending → MayLeave forced pending left → LeavesBeginning log stable left
+    → IsStored whole log stable forced pending → MayLeave forced pending left → LeavesBeginning framing HoldsFrames log stable left
 
 -- bytes hold the frames of one log, and hold the same once what isn't whole is cut off
 pub record FramesReadOnce : Type 0 where

@@ -9,7 +9,7 @@ use Rattle.stable.specs.Usage.{Usage, failing_in}
 use Rattle.page.specs.Leaf.{LeafView, first}
 use Rattle.system_txn.specs.declared.devices.Device.{Device}
 use Rattle.system_txn.specs.declared.devices.Device.TheVariants as device
-use Rattle.system_txn.specs.Uses.{refused_use}
+use Rattle.framed_log.specs.Refused.{refused_use}
 
 -- the leaves in key order; the records of their log, the newest first, and how many of these are stable; the
 -- bytes of each page that was written; and how each device was used

@@ -4,12 +4,8 @@ use Rattle.std.specs.FinMap.{keys}
 use Rattle.record_key.specs.declared.refusal.Refusal.{Refusal}
 use Rattle.record_key.specs.declared.refusal.Refusal.TheVariants.{Device}
 use Rattle.stable.specs.PagesState.{Pages}
-use Rattle.stable.specs.Usage.{Usage, is_due, called, failed, called_often}
-
--- after a call that was refused so: one that is refused for anything but a failure isn't counted
-abbrev pub refused_use : Usage → Refusal → Usage
-refused_use u Device = failed u
-refused_use u _ = u
+use Rattle.stable.specs.Usage.{Usage, is_due, called, called_often}
+use Rattle.framed_log.specs.Refused.{refused_use}
 
 -- the device fails only in a call that was due to
 abbrev pub FailsWhenDue : Usage → Refusal → Type 0

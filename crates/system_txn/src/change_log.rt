@@ -6,14 +6,17 @@ ghost use Rattle.codec.specs.Frames.{frame};
 ghost use Rattle.record_key.specs.FirstCause.{MayRefuse};
 ghost use Rattle.stable.specs.Crash.{BeginsWith};
 ghost use Rattle.stable.specs.Usage.{is_due, called, failed, failing_in};
-ghost use Rattle.recovery_laws.specs.Shape.{named, beginning};
-ghost use Rattle.system_txn.specs.LogView.{AreFrames, refusal_from};
-ghost use Rattle.system_txn.specs.Uses.{refused_use, FailsWhenDue};
+ghost use Rattle.recovery_laws.specs.Shape.{named};
+ghost use Rattle.framed_log.specs.Beginning.{beginning};
+ghost use Rattle.system_txn.specs.LogView.{AreFrames};
+ghost use Rattle.system_txn.specs.Uses.{FailsWhenDue};
+ghost use Rattle.framed_log.specs.Refused.{refused_use};
 ghost use Rattle.system_txn.specs.Devices.{spelled, AreRecords};
 
 use codec::{DcRecordRef, put_dc_record};
+use framed_log::refusal_of;
 use record_key::Refusal;
-use stable::{CrashLog, DeviceError, LogDevice};
+use stable::{CrashLog, LogDevice};
 use std::alloc::Global;
 use std::marker::Model;
 
@@ -221,14 +224,5 @@ fn id_after(change: &DcRecordRef<'_>, next: u64) -> u64
     match change {
         DcRecordRef::Split { right, .. } => right.id + 1,
         _ => next,
-    }
-}
-
-pub(crate) fn refusal_of(error: DeviceError) -> Refusal
-    ensures { result ≡ refusal_from error }
-{
-    match error {
-        DeviceError::NoMemory => Refusal::NoMemory,
-        DeviceError::Device => Refusal::Device,
     }
 }

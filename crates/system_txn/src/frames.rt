@@ -10,9 +10,9 @@ ghost use Rattle.system_txn.specs.Finding.{AreRead, StopsReading};
 ghost use Rattle.system_txn.specs.Recovering.{HoldsFrames, RefusesFrames};
 ghost use Rattle.system_txn.specs.Uses.{log_calls};
 
-use crate::change_log::refusal_of;
 use crate::reading::Reading;
 use codec::{DcRecord, Taken, take_dc_record};
+use framed_log::refusal_of;
 use record_key::Refusal;
 use stable::LogDevice;
 use std::alloc::Global;

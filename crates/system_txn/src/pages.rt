@@ -9,10 +9,10 @@ ghost use Rattle.system_txn.specs.Replaying.{HoldsPages};
 ghost use Rattle.system_txn.specs.Shelf.{held};
 ghost use Rattle.system_txn.specs.Uses.{StopsWithin, page_calls};
 
-use crate::change_log::refusal_of;
 use crate::image::leaf_of;
 use crate::shelf::Shelf;
 use codec::{Taken, take_leaf_image};
+use framed_log::refusal_of;
 use page::Leaf;
 use record_key::Refusal;
 use stable::PageDevice;

@@ -9,7 +9,7 @@ ghost use Rattle.stable.specs.Crash.{BeginsWith};
 ghost use Rattle.record_key.specs.Order.{rows_in};
 ghost use Rattle.btree.specs.Leaves.{leaf_at, place_at, rows_of};
 ghost use Rattle.btree.specs.Performs.{PerformsAt};
-ghost use Rattle.recovery_laws.specs.Shape.{beginning};
+ghost use Rattle.framed_log.specs.Beginning.{beginning};
 ghost use Rattle.system_txn.specs.SystemView.{fresh, failing_at};
 ghost use Rattle.system_txn.specs.Devices.{spelled};
 ghost use Rattle.system_txn.specs.Changes.{lowered};

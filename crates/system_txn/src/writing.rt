@@ -11,11 +11,11 @@ ghost use Rattle.system_txn.specs.Kept.{IsSystem};
 ghost use Rattle.system_txn.specs.Seen.{seen};
 ghost use Rattle.system_txn.specs.Writing.{image_len, HasRoom, HaveRoom};
 
-use crate::change_log::refusal_of;
 use crate::image::image_of;
 use crate::parts::Parts;
 use btree::LeafSet;
 use codec::{leaf_image_len, put_leaf_image};
+use framed_log::refusal_of;
 use page::Leaf;
 use record_key::{Key, Refusal};
 use stable::{LogDevice, PageDevice};

@@ -9,7 +9,7 @@ use Rattle.tc_core.specs.declared.open_txn.OpenTxn.{OpenTxn}
 use Rattle.tc_core.specs.OpenTxns.{AreBelow}
 use Rattle.tc_core.specs.Slots.{listed, in_slots, AreSlots}
 use Rattle.record_key.proofs.Lists.{all_appended}
-use Rattle.codec.proofs.ReadOnce.{all_older}
+use Rattle.framed_log.proofs.ReadOnce.{all_older}
 use Rattle.tc_core.proofs.Slots.{Holds, same_slots}
 
 all_front : {X : Type 0} (P : X → Type 0) (xs ys : List X) → AllByRecursion P (xs ++ ys) → AllByRecursion P xs

@@ -7,7 +7,7 @@ use Rattle.history.specs.declared.record.Record.{Record}
 use Rattle.history.specs.declared.record.Record.TheVariants as is
 use Rattle.log_laws.proofs.Checking.{latest_unique}
 use Rattle.stable.specs.Usage.{Usage, called, called_often}
-use Rattle.logical_log.specs.Low.{stable_part}
+use Rattle.framed_log.specs.Beginning.{beginning}
 use Rattle.logical_log.specs.Spelled.{spelled}
 use Rattle.logical_log.proofs.Crashed.{opens_once}
 use Rattle.restart.specs.Losers.{IsLoser}
@@ -45,7 +45,7 @@ checkpointed_less (suc k) (r ∷ log) =
 
 pub crashed_kept : CrashedIsKept
 crashed_kept w n k within = (
-  opened_kept (stable_part w.log n) w.usage (legal_part w.log n k.legal)
+  opened_kept (beginning w.log n) w.usage (legal_part w.log n k.legal)
       (omega (arith, length-drop (length w.log - n) w.log, k.few.records)),
   omega (arith, checkpointed_less (length w.log - n) w.log, is_checkpointed w k),
 )

@@ -5,8 +5,9 @@ use Rattle.history.specs.declared.record.Record.{Record}
 use Rattle.history.specs.declared.record.Record.TheVariants as is
 use Rattle.history.specs.Log.{record_at, request_in}
 use Rattle.history.specs.Legal.{FitsCheckpoint}
-use Rattle.logical_log.specs.Low.{stable_part}
-use Rattle.logical_log.proofs.Answered.{answered_whole, part_longer, part_whole}
+use Rattle.framed_log.specs.Beginning.{beginning}
+use Rattle.logical_log.proofs.Answered.{answered_whole}
+use Rattle.framed_log.proofs.Beginning.{everything, shorter}
 use Rattle.logical_log.proofs.Index.{record_at-zero}
 use Rattle.logical_log.specs.Checkpointed.{raised_by}
 use Rattle.logical_log.proofs.Checkpointed.{raised_more}
@@ -25,19 +26,19 @@ of_greater P c l at_c at_l = pick (nat_lt c l)
 
 -- what may be announced may be announced later too
 pub may_longer : (r : Record) (log : List Record) (stable l : ℕ) → stable ≤ length log
-    → FitsCheckpoint (stable_part log stable) l
-    → FitsCheckpoint (stable_part (r ∷ log) stable) l
+    → FitsCheckpoint (beginning log stable) l
+    → FitsCheckpoint (beginning (r ∷ log) stable) l
 may_longer r log stable l within h =
-    let P : List Record → Type 0 = λ x. FitsCheckpoint x l in subst P (sym (part_longer r log stable within)) h
+    let P : List Record → Type 0 = λ x. FitsCheckpoint x l in subst P (sym (shorter r log stable within)) h
 
 -- of all records
-pub may_all : (log : List Record) (stable l : ℕ) → FitsCheckpoint (stable_part log stable) l → FitsCheckpoint log l
+pub may_all : (log : List Record) (stable l : ℕ) → FitsCheckpoint (beginning log stable) l → FitsCheckpoint log l
 may_all log stable l h = answered_whole (length log - stable) log l h
 
-may_forced : (log : List Record) (stable l : ℕ) → FitsCheckpoint (stable_part log stable) l
-    → FitsCheckpoint (stable_part log (length log)) l
+may_forced : (log : List Record) (stable l : ℕ) → FitsCheckpoint (beginning log stable) l
+    → FitsCheckpoint (beginning log (length log)) l
 may_forced log stable l h =
-    let P : List Record → Type 0 = λ x. FitsCheckpoint x l in subst P (sym (part_whole log)) (may_all log stable l h)
+    let P : List Record → Type 0 = λ x. FitsCheckpoint x l in subst P (sym (everything log)) (may_all log stable l h)
 
 -- nothing asks for anything at 0
 pub may_none : (log : List Record) → FitsCheckpoint log 0
@@ -74,7 +75,7 @@ module _ (w : TcView) (k : IsTc w) where
   -- a session begins
   pub low_started : AreLow w.log w.stable 0 None w.checkpointed
   low_started = record {
-    announced = may_none (stable_part w.log w.stable);
+    announced = may_none (beginning w.log w.stable);
     asked = λ l is. absurd (cc);
     checkpointed = k.low.checkpointed;
     checked = k.low.checked;
@@ -105,7 +106,7 @@ module _ (w : TcView) (k : IsTc w) where
         announced = may_longer r w.log w.stable w.announced k.within k.low.announced;
         asked = λ m none. absurd (cc);
         checkpointed = raised_more r w.log w.checkpointed k.low.checkpointed;
-        checked = of_greater (FitsCheckpoint (stable_part (r ∷ w.log) w.stable)) w.checkpointed l
+        checked = of_greater (FitsCheckpoint (beginning (r ∷ w.log) w.stable)) w.checkpointed l
             (may_longer r w.log w.stable w.checkpointed k.within k.low.checked)
             (may_longer r w.log w.stable l k.within may);
       }

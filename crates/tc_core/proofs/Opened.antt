@@ -19,9 +19,10 @@ use Rattle.history.specs.Spans.{at_key, AnyConflict, changed_span, do_conflict, 
 use Rattle.log_laws.proofs.Sharing.{share_adds, modes_agree}
 use Rattle.log_laws.proofs.Records.{AnOp, at_newest, at_older, not_newest, since}
 use Rattle.log_laws.proofs.LegalLogs.{begun_number, fits_at, op_number}
-use Rattle.logical_log.proofs.Answered.{answered_longer, part_whole}
+use Rattle.logical_log.proofs.Answered.{answered_longer}
+use Rattle.framed_log.proofs.Beginning.{everything}
 use Rattle.stable.specs.Usage.{Usage}
-use Rattle.logical_log.specs.Low.{stable_part}
+use Rattle.framed_log.specs.Beginning.{beginning}
 use Rattle.range_locks.specs.Locks.{LocksView, spans_of}
 use Rattle.restart.specs.Losers.{LosersView, txns, AreLosers}
 use Rattle.logical_log.specs.Checkpointed.{IsCheckpointed}
@@ -193,10 +194,10 @@ opened_tc log usage start l locks legal few losers all redo holds =
       asking = λ n is. absurd (cc);
       phase = refl;
       low = record {
-        announced = may_none (stable_part log (length log));
+        announced = may_none (beginning log (length log));
         asked = λ n is. absurd (cc);
         checkpointed = checkpointed;
-        checked = subst Q (sym (part_whole log)) (checked_in log (start - 1) legal checkpointed);
+        checked = subst Q (sym (everything log)) (checked_in log (start - 1) legal checkpointed);
       };
       open_txns = record {
         each = λ t o at. absurd (cc);

@@ -15,12 +15,13 @@ use Rattle.range_locks.specs.declared.span.Mode.TheVariants as held
 use Rattle.range_locks.specs.Meant.{mode_of}
 use Rattle.history.specs.Spans as law
 use Rattle.history.specs.Spans.{at_key, changed_span}
-use Rattle.logical_log.specs.Low.{stable_part as first_part}
+use Rattle.framed_log.specs.Beginning.{beginning}
+use Rattle.framed_log.proofs.Beginning.{length_beginning}
 use Rattle.logical_log.proofs.Spelled.{has_record}
 use Rattle.log_laws.proofs.LegalLogs.{begun_number}
 use Rattle.range_locks.specs.Rebuilt.{Listed, listed_spans}
 use Rattle.range_locks.proofs.Rebuilding.{span_at}
-use Rattle.restart.proofs.Passing.{part_more, legal_part, length_part}
+use Rattle.restart.proofs.Passing.{part_more, legal_part}
 use Rattle.tc_core.specs.Locking.{op_spans, held_mode}
 use Rattle.tc_core.specs.Opening.{key_noted, spans_if}
 
@@ -57,7 +58,7 @@ listed_more keys e t =
 
 -- the keys that are noted of the first records
 abbrev pub AreNoted : List Record → ℕ → List (Listed) → (ℕ → Option ℕ) → Type 0
-AreNoted log end keys noted = (t : ℕ) → listed_spans keys t ≡ spans_if (noted t) (op_spans (first_part log end) t)
+AreNoted log end keys noted = (t : ℕ) → listed_spans keys t ≡ spans_if (noted t) (op_spans (beginning log end) t)
 
 noted_next : (r : Record) (part : List Record) (keys : List (Listed)) (noted : ℕ → Option ℕ)
     → ((t : ℕ) → listed_spans keys t ≡ spans_if (noted t) (op_spans part t))
@@ -93,7 +94,7 @@ pub noted_more : (log : List Record) (end : ℕ) (r : Record) (keys new : List (
     → record_at log (end + 1) ≡ Some r → new ≡ keys ++ key_noted r noted → AreNoted log end keys noted
     → AreNoted log (end + 1) new noted
 noted_more log end r keys new noted stands is h t =
-    ap (λ ks. listed_spans ks t) is ∙ noted_next r (first_part log end) keys noted h t
+    ap (λ ks. listed_spans ks t) is ∙ noted_next r (beginning log end) keys noted h t
     ∙ ap (λ p. spans_if (noted t) (op_spans p t)) (sym (part_more log end r stands))
 
 -- who began later has no operation among them
@@ -108,11 +109,11 @@ pub noted_none : (log : List Record) (end : ℕ) (noted : ℕ → Option ℕ) �
     → ((t n : ℕ) → noted t ≡ Some n → end ≤ t) → AreNoted log end [] noted
 noted_none log end noted legal within late t = by (noted t) refl
   where
-    by : (x : Option ℕ) → noted t ≡ x → [] ≡ spans_if x (op_spans (first_part log end) t)
+    by : (x : Option ℕ) → noted t ≡ x → [] ≡ spans_if x (op_spans (beginning log end) t)
     by None none = refl
     by (Some n) some =
-        sym (none_early (first_part log end) t (legal_part log end legal)
-        (omega (arith, length_part log end within, late t n some)))
+        sym (none_early (beginning log end) t (legal_part log end legal)
+        (omega (arith, length_beginning log end within, late t n some)))
 
 -- all records were read
 pub none_past : (log : List Record) (end : ℕ) → end < length log → record_at log (end + 1) ≡ None → ⊥

@@ -17,7 +17,7 @@ use Rattle.tc_core.specs.declared.open_txn.Read.{Read}
 use Rattle.tc_core.specs.declared.open_txn.Rollback.{Rollback}
 use Rattle.tc_core.specs.declared.phase.Phase.{Phase}
 use Rattle.tc_core.specs.declared.phase.Phase.TheVariants as phase
-use Rattle.logical_log.specs.Low.{stable_part}
+use Rattle.framed_log.specs.Beginning.{beginning}
 use Rattle.logical_log.specs.Checkpointed.{IsCheckpointed}
 use Rattle.restart.specs.Losers.{LosersView, txns, IsLoser, AreLosers}
 use Rattle.tc_core.specs.OpenTxns.{find, AreFalling}
@@ -121,10 +121,10 @@ pub record AreLost (log : List Record) (s : ℕ) (p : Phase) (l : LosersView) : 
 -- how far the data component may forget: what was announced, what a checkpoint was asked for, and the greatest that
 -- a Checkpoint record names
 pub record AreLow (log : List Record) (stable a : ℕ) (asks : Option ℕ) (c : ℕ) : Type 0 where
-  pub announced : FitsCheckpoint (stable_part log stable) a
-  pub asked : (l : ℕ) → asks ≡ Some l → FitsCheckpoint (stable_part log stable) l
+  pub announced : FitsCheckpoint (beginning log stable) a
+  pub asked : (l : ℕ) → asks ≡ Some l → FitsCheckpoint (beginning log stable) l
   pub checkpointed : IsLatestOrNone (IsCheckpointed log) c
-  pub checked : FitsCheckpoint (stable_part log stable) c
+  pub checked : FitsCheckpoint (beginning log stable) c
 
 -- whose Commit stands above the stable records, the oldest first
 abbrev pub commits_in : List Record → ℕ → List ℕ

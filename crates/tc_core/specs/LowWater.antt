@@ -6,14 +6,15 @@ use Rattle.history.specs.Legal.{FitsCheckpoint}
 use Rattle.std.specs.Bool.{MatchBool}
 use Rattle.codec.specs.declared.request.Request.{Request}
 use Rattle.codec.specs.declared.request.Request.TheVariants as asks
-use Rattle.logical_log.specs.Low.{stable_part, IsGreatestLow}
+use Rattle.logical_log.specs.Low.{IsGreatestLow}
+use Rattle.framed_log.specs.Beginning.{beginning}
 use Rattle.tc_core.specs.TcView.{TcView, is_running}
 use Rattle.tc_core.specs.Causes.{running_refusal}
 use Rattle.tc_core.specs.Changes.{announced}
 
 -- every request up to this number has a stable answer, and the number is stable
 abbrev pub MayAnnounce : TcView → ℕ → Type 0
-MayAnnounce w l = FitsCheckpoint (stable_part w.log w.stable) l
+MayAnnounce w l = FitsCheckpoint (beginning w.log w.stable) l
 
 -- the component isn't running, or the number may not be announced
 abbrev pub RefusesLow : TcView → ℕ → Refusal → Type 0

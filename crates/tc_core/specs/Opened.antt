@@ -5,7 +5,7 @@ use Rattle.history.specs.declared.record.Record.TheVariants as is
 use Rattle.history.specs.Log.{record_at, has_ended, step_of}
 use Rattle.history.specs.Legal.{IsLegal}
 use Rattle.history.specs.Chains.{undo_from}
-use Rattle.logical_log.specs.Low.{stable_part}
+use Rattle.framed_log.specs.Beginning.{beginning}
 use Rattle.stable.specs.Usage.{Usage, called_often}
 use Rattle.logical_log.specs.Opening.{IsLogOf, cut_calls}
 use Rattle.range_locks.specs.Locks.{LocksView, set_spans}
@@ -79,7 +79,7 @@ OpenedIsOpened =
 
 -- what is left of the component where a crash keeps the first records, so many
 abbrev pub crashed : TcView → ℕ → TcView
-crashed w n = opens_as (stable_part w.log n) w.usage
+crashed w n = opens_as (beginning w.log n) w.usage
 
 -- it is a transaction component, and its Checkpoint records name no greater number than the whole log's
 abbrev pub CrashedIsKept : Type 0

@@ -5,7 +5,7 @@ ghost use Rattle.std.specs.Ordering.{nat_cmp};
 ghost use Rattle.stable.specs.Crash.{BeginsWith};
 ghost use Rattle.history.specs.declared.record.Record.{Record};
 ghost use Rattle.history.specs.Log.{record_at};
-ghost use Rattle.logical_log.specs.Low.{stable_part};
+ghost use Rattle.framed_log.specs.Beginning.{beginning};
 ghost use Rattle.logical_log.specs.Opening.{IsLogOf};
 ghost use Rattle.logical_log.specs.Replay.{KeptOf, IsAnalysis};
 ghost use Rattle.logical_log.specs.Spelled.{spelled, AreRecords};
@@ -78,9 +78,9 @@ impl<D: LogDevice> Parts<D> {
 
     pub fn stop(self) -> D
         ensures holds { D.forced result ++ D.pending result ≡ spelled self.log.records }
-        ensures forced { BeginsWith (D.forced result) (spelled (stable_part self.log.records self.log.stable)) }
+        ensures forced { BeginsWith (D.forced result) (spelled (beginning self.log.records self.log.stable)) }
         ensures just { D.forces_whole ≡ true
-            → D.forced result ≡ spelled (stable_part self.log.records self.log.stable) }
+            → D.forced result ≡ spelled (beginning self.log.records self.log.stable) }
         ensures spellable { AreRecords self.log.records }
         ensures usage { D.usage result ≡ self.log.usage }
     {

@@ -4,7 +4,7 @@ ghost use Rattle.std.specs.Option.{option_copied};
 ghost use Rattle.stable.specs.Crash.{BeginsWith};
 ghost use Rattle.stable.specs.Usage.{failing_in};
 ghost use Rattle.history.specs.Log.{record_at, request_in};
-ghost use Rattle.logical_log.specs.Low.{stable_part};
+ghost use Rattle.framed_log.specs.Beginning.{beginning};
 ghost use Rattle.logical_log.specs.Opening.{RefusesOpen, UsedToOpen};
 ghost use Rattle.logical_log.specs.Spelled.{spelled, AreRecords, IsAskedBy};
 ghost use Rattle.logical_log.specs.LogView.{spent_refusal};
@@ -106,8 +106,8 @@ impl<D: LogDevice> Tc<D> {
     /// where it forces all or nothing.
     pub fn stop(self) -> D
         ensures holds { D.forced result ++ D.pending result ≡ spelled self.log }
-        ensures forced { BeginsWith (D.forced result) (spelled (stable_part self.log self.stable)) }
-        ensures just { D.forces_whole ≡ true → D.forced result ≡ spelled (stable_part self.log self.stable) }
+        ensures forced { BeginsWith (D.forced result) (spelled (beginning self.log self.stable)) }
+        ensures just { D.forces_whole ≡ true → D.forced result ≡ spelled (beginning self.log self.stable) }
         ensures spellable { AreRecords self.log }
         ensures usage { D.usage result ≡ self.usage }
     {
@@ -419,14 +419,14 @@ impl<D: LogDevice> Tc<D> {
     /// Where the first records, so many, end in the log's bytes. Takes no memory.
     pub fn end_of(&self, count: u64) -> usize
         requires { count ≤ length self.now.log }
-        ensures { result ≡ length (spelled (stable_part self.now.log count)) }
+        ensures { result ≡ length (spelled (beginning self.now.log count)) }
     {
         self.parts.log.end_of(count)
     }
 
     /// The bytes of the stable records. Takes no memory.
     pub fn stable_bytes(&self) -> &[u8]
-        ensures { result.now ≡ spelled (stable_part self.now.log self.now.stable) }
+        ensures { result.now ≡ spelled (beginning self.now.log self.now.stable) }
     {
         self.parts.log.stable_bytes()
     }

@@ -11,6 +11,7 @@ use Rattle.std.specs.List.{AllByRecursion}
 use Rattle.codec.specs.FrameIndex.{place_at, places_of, Indexes}
 use Rattle.codec.specs.Frames.{frame, any_length}
 use Rattle.codec.specs.Reading.{Reader, frame_at, within, request_at, reply_at}
+use Rattle.framed_log.specs.Spelled.{taken_or}
 use Rattle.codec.specs.Replies.{reply_bytes, session_of, has_rows, IsReply}
 use Rattle.tc_core.specs.Replies.{is_of_another}
 use Rattle.codec.specs.declared.request.Request.{Request}
@@ -22,18 +23,11 @@ use Rattle.world.specs.declared.sent.Asked.TheVariants as asked
 use Rattle.world.specs.declared.sent.Said.{Said}
 use Rattle.world.specs.declared.sent.Said.TheVariants as said
 use Rattle.node_laws.specs.Messages.{message_at}
-use Rattle.codec.specs.declared.taken.Taken.{Taken}
-use Rattle.codec.specs.declared.taken.Taken.TheVariants as took
 
 -- what is seen of them: the messages, the oldest first, and whether there is room for one more without rows
 pub record SentView (X : Type 0) : Type 0 where
   pub messages : List X
   pub has_room : Bool
-
-abbrev pub taken_or : {X : Type 0} → X → Taken X → X
-taken_or other (took.Record x next) = x
-taken_or other took.Short = other
-taken_or other (took.Bad place) = other
 
 -- the message whose frame begins at a place of the bytes; another where none does
 unfoldable pub read_there : {X : Type 0} → Reader X → X → List ℕ → ℕ → X

@@ -9,7 +9,8 @@ use Rattle.codec.specs.declared.reply.Reply.{Reply}
 use Rattle.codec.specs.declared.reply.Reply.TheVariants as says
 use Rattle.codec.proofs.Requests.{request_taken}
 use Rattle.codec.proofs.Replies.{reply_taken}
-use Rattle.world.specs.Sent.{StandsAt, taken_or, read_there, request_there, reply_there, IsFramedReply}
+use Rattle.framed_log.specs.Spelled.{taken_or}
+use Rattle.world.specs.Sent.{StandsAt, read_there, request_there, reply_there, IsFramedReply}
 
 pub request_reads : (bytes : List ℕ) (place : ℕ) (there : StandsAt Request request_bytes IsRequest bytes place)
     → request_there bytes place ≡ there.message

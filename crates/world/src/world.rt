@@ -3,7 +3,7 @@ ghost use Rattle.std.specs.Prelude.{◌≡◌, ◌<◌, ◌↔◌, true, false, 
 ghost use Rattle.std.specs.FinMap.{entries};
 ghost use Rattle.history.specs.Log.{record_at};
 ghost use Rattle.history.specs.ListMachine.{fresh};
-ghost use Rattle.logical_log.specs.Low.{stable_part};
+ghost use Rattle.framed_log.specs.Beginning.{beginning};
 ghost use Rattle.logical_log.specs.Spelled.{spelled};
 ghost use Rattle.page.specs.Leaf.{first};
 ghost use Rattle.btree.specs.Leaves.{rows_of};
@@ -239,7 +239,7 @@ impl<D: CrashLog, P: CrashPages> World<D, P> {
     /// They only grow, but for a crash. Lent, without a device call. Refused NotConnected where the transaction component
     /// is down.
     pub fn stable_bytes(&self) -> Result<&[u8], Refusal>
-        ensures bytes { IfOk result (λ bytes. bytes.now ≡ spelled (stable_part self.now.tc.log self.now.tc.stable)) }
+        ensures bytes { IfOk result (λ bytes. bytes.now ≡ spelled (beginning self.now.tc.log self.now.tc.stable)) }
         ensures up { OnOk result (self.now.tc_up ≡ true) }
         ensures refused { IfErr result (λ refusal. refusal ≡ Refusal.NotConnected) }
         ensures down { OnErr result (self.now.tc_up ≡ false) }

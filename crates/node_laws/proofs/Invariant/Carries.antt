@@ -7,7 +7,7 @@ use Rattle.record_key.specs.declared.op.Answer.{Answer}
 use Rattle.record_key.specs.Table.{Bytes, key_of}
 use Rattle.record_key.proofs.Lists.{all_from}
 use Rattle.history.specs.Log.{Requests}
-use Rattle.logical_log.specs.Low.{stable_part}
+use Rattle.framed_log.specs.Beginning.{beginning}
 use Rattle.logical_log.specs.LogView.{last_not_session}
 use Rattle.codec.specs.declared.request.Request.{Request}
 use Rattle.codec.specs.declared.request.Request.TheVariants as asks
@@ -189,7 +189,7 @@ module _ (w : NodeView) (dc : DcView) (k : IsKept w) (a : StartsAnew w.dc dc) wh
   pub keeps_anew : (reply : Option Reply) → IfSome reply (IsGiven w.tc dc y) → IsDc dc → IsRecoverable dc.system
       → IsTrueTo w.tc y dc.system
       → AllByRecursion (λ (p : Performance). Requests y.log p.number p.op) dc.performed → dc.known ≤ y.sure
-      → dc.opened_to ≤ last_not_session (stable_part w.tc.log w.tc.stable)
+      → dc.opened_to ≤ last_not_session (beginning w.tc.log w.tc.stable)
       → AreSessions w.tc.stable w.tc.session w.tc.phase w.tc.log dc → IsKept (replied w dc reply)
   keeps_anew reply given is recoverable true_to performed known opened sessions = by reply given
     where

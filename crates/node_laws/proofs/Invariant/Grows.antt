@@ -15,9 +15,9 @@ use Rattle.history.specs.Values.{is_on, value_with, value_on, IsRight, HasRightA
 use Rattle.log_laws.proofs.Records.{ARequest, older_at, at_newest}
 use Rattle.log_laws.proofs.LegalLogs.{request_number}
 use Rattle.logical_log.specs.LogView.{last_not_session}
-use Rattle.logical_log.proofs.Answered.{part_longer}
+use Rattle.framed_log.proofs.Beginning.{shorter}
 use Rattle.dc_core.proofs.KeepsDc.{all_both}
-use Rattle.logical_log.specs.Low.{stable_part}
+use Rattle.framed_log.specs.Beginning.{beginning}
 use Rattle.range_locks.specs.declared.span.Span.{Span}
 use Rattle.range_locks.specs.declared.span.Span.TheVariants.{Key, Range}
 use Rattle.codec.specs.declared.request.Request.{Request}
@@ -105,7 +105,7 @@ pub answered_on : (old new : Source) (l : ℕ) → IsGrown old new → IsAnswere
     → IsAnsweredBy new.log new.sure l
 answered_on old new l on h =
     part_grows new.log old.sure new.sure l on.sure on.now_within
-    (extend (λ log. FitsCheckpoint (stable_part log old.sure) l) old.log new.log on.log
+    (extend (λ log. FitsCheckpoint (beginning log old.sure) l) old.log new.log on.log
     (λ r. may_longer r old.log old.sure l on.within) h)
 
 pub begun_on : (old new : TcView) (s : ℕ) → GoesOn old new → IsBegun old.stable old.session s
@@ -394,12 +394,12 @@ quiet_on old new on quiet waits = elim (on.waits waits) [
 ]
 
 -- what the leaves had when they were opened is stable still
-opened_on : (old new : Source) (n : ℕ) → IsGrown old new → n ≤ last_not_session (stable_part old.log old.sure)
-    → n ≤ last_not_session (stable_part new.log new.sure)
+opened_on : (old new : Source) (n : ℕ) → IsGrown old new → n ≤ last_not_session (beginning old.log old.sure)
+    → n ≤ last_not_session (beginning new.log new.sure)
 opened_on old new n on h =
-    let same : last_not_session (stable_part new.log old.sure) ≡ last_not_session (stable_part old.log old.sure) =
-    extend (λ log. last_not_session (stable_part log old.sure) ≡ last_not_session (stable_part old.log old.sure))
-    old.log new.log on.log (λ r was. ap last_not_session (part_longer r old.log old.sure on.within) ∙ was) refl in
+    let same : last_not_session (beginning new.log old.sure) ≡ last_not_session (beginning old.log old.sure) =
+    extend (λ log. last_not_session (beginning log old.sure) ≡ last_not_session (beginning old.log old.sure))
+    old.log new.log on.log (λ r was. ap last_not_session (shorter r old.log old.sure on.within) ∙ was) refl in
     omega (arith, h, same, last_parts new.log old.sure new.sure on.sure on.now_within)
 
 -- all holds still, where the answers are right and what is answered is captured

@@ -9,9 +9,9 @@ use Rattle.history.specs.declared.record.Record.{Record}
 use Rattle.history.specs.declared.record.Record.TheVariants as is
 use Rattle.history.specs.Log.{record_at, request_in, Requests}
 use Rattle.log_laws.proofs.Records.{ARequest, no_request, newest_at, older_at, record_new, record_old}
-use Rattle.logical_log.specs.Low.{stable_part}
+use Rattle.framed_log.specs.Beginning.{beginning}
 use Rattle.logical_log.specs.LogView.{last_not_session}
-use Rattle.node_laws.proofs.Restarts.Beginnings.{in_part}
+use Rattle.framed_log.proofs.Beginning.{of_beginning}
 
 abbrev pub AreAllSessions : List Record → Type 0
 AreAllSessions log = AllByRecursion (λ r. r ≡ is.Session) log
@@ -84,28 +84,28 @@ last_dropped zero log = omega arith
 last_dropped (suc k) [] = omega arith
 last_dropped (suc k) (r ∷ log) = omega (arith, last_dropped k log, last_grows r log)
 
-pub last_part : (log : List Record) (end : ℕ) → last_not_session (stable_part log end) ≤ last_not_session log
+pub last_part : (log : List Record) (end : ℕ) → last_not_session (beginning log end) ≤ last_not_session log
 last_part log end = last_dropped (length log - end) log
 
 -- so does that of the first records, so many
 pub last_parts : (log : List Record) (s t : ℕ) → s ≤ t → t ≤ length log
-    → last_not_session (stable_part log s) ≤ last_not_session (stable_part log t)
+    → last_not_session (beginning log s) ≤ last_not_session (beginning log t)
 last_parts log s t le within =
     let e : length log - s ≡ (length log - t) + (t - s) = omega (arith, le, within) in
-    let same : stable_part log s ≡ drop (t - s) (stable_part log t) =
+    let same : beginning log s ≡ drop (t - s) (beginning log t) =
     ap (λ k. drop k log) e ∙ sym (drop-drop (t - s) (length log - t) log) in
-    subst (λ (l : List Record). last_not_session l ≤ last_not_session (stable_part log t)) (sym same)
-    (last_dropped (t - s) (stable_part log t))
+    subst (λ (l : List Record). last_not_session l ≤ last_not_session (beginning log t)) (sym same)
+    (last_dropped (t - s) (beginning log t))
 
 -- a beginning that has it has the same
 pub last_left : (log : List Record) (n : ℕ) → last_not_session log ≤ n → n ≤ length log
-    → last_not_session (stable_part log n) ≡ last_not_session log
+    → last_not_session (beginning log n) ≡ last_not_session log
 last_left log n has within =
-    in_part (λ (l : List Record). last_not_session l ≡ last_not_session log) n
+    of_beginning (λ (l : List Record). last_not_session l ≡ last_not_session log) n
     (λ r rest le same. elim (session_or r) [
       | inl session ↦ subst (λ (q : Record). last_not_session (q ∷ rest) ≡ last_not_session log) session same
       | inr last ↦ absurd (omega (arith, last rest, same, has, le))
-    ]) log within refl
+    ]) log refl
 
 -- no request is later
 pub request_last : (log : List Record) (n : ℕ) (o : Op) → Requests log n o → n ≤ last_not_session log

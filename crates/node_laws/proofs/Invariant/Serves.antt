@@ -6,7 +6,7 @@ use Rattle.range_locks.specs.Meant.{range_of}
 use Rattle.record_key.specs.declared.refusal.Refusal.{Refusal}
 use Rattle.record_key.specs.declared.refusal.Refusal.TheVariants.{Device}
 use Rattle.stable.specs.Usage.{Usage, called, failed}
-use Rattle.system_txn.specs.Uses.{refused_use}
+use Rattle.framed_log.specs.Refused.{refused_use}
 use Rattle.record_key.specs.Table.{Bytes, key_of, answer_in}
 use Rattle.history.specs.declared.record.Record.{Record}
 use Rattle.record_key.specs.Order.{has_key, rows_in}

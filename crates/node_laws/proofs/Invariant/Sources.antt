@@ -9,7 +9,7 @@ use Rattle.history.specs.Legal.{FitsCheckpoint}
 use Rattle.history.specs.Log.{Requests}
 use Rattle.log_laws.proofs.Records.{ARequest, kept_at}
 use Rattle.log_laws.proofs.LegalLogs.{request_number}
-use Rattle.logical_log.proofs.Answered.{part_longer}
+use Rattle.framed_log.proofs.Beginning.{shorter}
 use Rattle.page.specs.Leaf.{LeafView}
 use Rattle.page.proofs.Honest.{honest_uncaptured}
 use Rattle.recovery_laws.specs.Ready.{IsHonestTo}
@@ -166,7 +166,7 @@ answered_now w stored x within from l h =
     let there : IsAnsweredBy w.log x.sure l =
     at_log (λ log. IsAnsweredBy log x.sure l) w stored x within from
     (λ r log le old. let P : List Record → Type 0 = λ part. FitsCheckpoint part l in
-    subst P (part_longer r log x.sure le) old)
+    subst P (shorter r log x.sure le) old)
     (λ r log le. may_longer r log x.sure l le) h in
     part_grows w.log x.sure w.stable l (sure_stable w stored x from) within there
 

@@ -7,7 +7,7 @@ use Rattle.btree.specs.Leaves.{leaf_at}
 use Rattle.recovery_laws.specs.Recovery.{stored_session}
 use Rattle.system_txn.specs.Kept.{IsRecoverable}
 use Rattle.system_txn.specs.Checked.{Checks}
-use Rattle.system_txn.specs.Uses.{refused_use}
+use Rattle.framed_log.specs.Refused.{refused_use}
 use Rattle.system_txn.specs.SystemView.{SystemView, log_refused}
 use Rattle.system_txn.specs.Changes.{split_to, merged_to, written_to, first_large, first_pair}
 use Rattle.system_txn.specs.Gives.{SplitsWithin, MergesWithin, SplitGives, MergeGives, TendGives, FlushGives, StopsWriting, tending}

@@ -25,7 +25,7 @@ use Rattle.tc_core.specs.declared.phase.Phase.TheVariants as phase
 use Rattle.tc_core.specs.Kept.{IsTc}
 use Rattle.tc_core.specs.TcView.{TcView}
 use Rattle.tc_core.proofs.Low.{may_none}
-use Rattle.logical_log.specs.Low.{stable_part}
+use Rattle.framed_log.specs.Beginning.{beginning}
 use Rattle.node_laws.specs.Node.{joined}
 use Rattle.node_laws.specs.Kept.{IsKept, IsAnsweredTo}
 use Rattle.node_laws.specs.Source.{own}
@@ -118,7 +118,7 @@ kept_joined w log_usage page_usage tc right stable session unconnected unchecked
 }
   where
     low_answered : IsAnsweredTo w 0
-    low_answered = may_none (stable_part w.log w.stable)
+    low_answered = may_none (beginning w.log w.stable)
 
     no_page : (id : ℕ) (page : LeafView) → pages_of map.empty id ≡ Some page → ⊥
     no_page id page h = let none : None ≡ Some page = rw (get-empty nat_cmp id) at h in absurd (cc)

@@ -5,16 +5,15 @@ use Rattle.std.proofs.lemmas.List.{length-drop}
 use Rattle.record_key.specs.declared.entry.Entry.{Entry}
 use Rattle.record_key.proofs.Lists.{all_from}
 use Rattle.history.specs.Log.{Requests}
-use Rattle.logical_log.specs.Low.{stable_part}
+use Rattle.framed_log.specs.Beginning.{beginning}
 use Rattle.logical_log.specs.LogView.{last_not_session}
 use Rattle.page.specs.Leaf.{LeafView}
 use Rattle.page.specs.Honest.{IsSavedRight, IsHonestLeaf}
 use Rattle.page.specs.Tops.{top}
-use Rattle.recovery_laws.specs.Shape.{beginning}
 use Rattle.recovery_laws.specs.Recovery.{stored_session}
 use Rattle.recovery_laws.specs.Laws.{IsKeptByCuts}
 use Rattle.recovery_laws.specs.Ready.{IsHonestTo}
-use Rattle.recovery_laws.proofs.Beginnings.{twice}
+use Rattle.framed_log.proofs.Beginning.{twice, of_beginning}
 use Rattle.recovery_laws.proofs.Honesty.{captures_fewer, cuts_keep_honest}
 use Rattle.ab_lsn.specs.Parting.{is_under}
 use Rattle.system_txn.specs.SystemView.{SystemView}
@@ -42,7 +41,7 @@ use Rattle.node_laws.specs.Kept.{IsKept, IsBegun, IsServed, IsTrueTo, IsLowAnswe
 use Rattle.node_laws.specs.Source.{own}
 use Rattle.node_laws.proofs.Invariant.Captured.{entries_to, top_to}
 use Rattle.node_laws.proofs.Invariant.LastRecord.{last_within, request_last}
-use Rattle.node_laws.proofs.Restarts.Beginnings.{in_part, request_less}
+use Rattle.node_laws.proofs.Restarts.Beginnings.{request_less}
 use Rattle.node_laws.proofs.Invariant.Carries.{keeps_anew}
 use Rattle.node_laws.proofs.Invariant.Running.{run_is, some_session}
 use Rattle.node_laws.proofs.Invariant.Systems.{same_leaves, keeps_system}
@@ -98,18 +97,18 @@ crash_honest w n k le =
 
 -- each of their entries is of a stable request
 top_request : (w : TcView) → w.stable ≤ length w.log → (leaf : LeafView) → IsHonestTo w.log w.stable leaf
-    → top leaf ≤ last_not_session (stable_part w.log w.stable)
+    → top leaf ≤ last_not_session (beginning w.log w.stable)
 top_request w within leaf h =
-    top_to (last_not_session (stable_part w.log w.stable)) leaf.ab.entries
+    top_to (last_not_session (beginning w.log w.stable)) leaf.ab.entries
     (all_both (IsSavedRight w.log) (λ (e : Entry). e.number ≤ w.stable)
-    (λ (e : Entry). e.number ≤ last_not_session (stable_part w.log w.stable))
-    (λ e right sure. request_last (stable_part w.log w.stable) e.number right.op
-    (in_part (λ log. Requests log e.number right.op) w.stable
-    (λ r log le. request_less e.number right.op r log (omega (arith, sure, le))) w.log within right.requests))
+    (λ (e : Entry). e.number ≤ last_not_session (beginning w.log w.stable))
+    (λ e right sure. request_last (beginning w.log w.stable) e.number right.op
+    (of_beginning (λ log. Requests log e.number right.op) w.stable
+    (λ r log le. request_less e.number right.op r log (omega (arith, sure, le))) w.log right.requests))
     leaf.ab.entries h.honest.saved (entries_to leaf w.stable h.within))
 
 top_sure : (w : TcView) → w.stable ≤ length w.log → (ls : List LeafView)
-    → AllByRecursion (IsHonestTo w.log w.stable) ls → top_of ls ≤ last_not_session (stable_part w.log w.stable)
+    → AllByRecursion (IsHonestTo w.log w.stable) ls → top_of ls ≤ last_not_session (beginning w.log w.stable)
 top_sure w within [] all = omega arith
 top_sure w within (leaf ∷ ls) all = omega (arith, top_request w within leaf all.0, top_sure w within ls all.1)
 
@@ -140,9 +139,9 @@ crash_keeps w n k le =
       recorded = omega (arith, stored_within w.dc.system.log n, k.sessions.begun.recorded);
       most = λ some. omega (arith, stored_within w.dc.system.log n, k.sessions.begun.most some);
     } in
-    let opened : top_of v.leaves ≤ last_not_session (stable_part w.tc.log w.tc.stable) =
+    let opened : top_of v.leaves ≤ last_not_session (beginning w.tc.log w.tc.stable) =
     top_sure w.tc k.tc.within v.leaves (crash_honest w n k le) in
-    let short : length (stable_part w.tc.log w.tc.stable) ≡ length w.tc.log - (length w.tc.log - w.tc.stable) =
+    let short : length (beginning w.tc.log w.tc.stable) ≡ length w.tc.log - (length w.tc.log - w.tc.stable) =
     length-drop (length w.tc.log - w.tc.stable) w.tc.log in
     keeps_anew w (restarted v) k
     (record {
@@ -152,7 +151,7 @@ crash_keeps w n k le =
       checks = crashed_checked w.dc.system n k.recoverable le;
     })
     None tt (crash_kept w n k le) (crashed_recoverable w.dc.system n k.recoverable le) (crash_true w n k le) tt
-    (omega (arith, opened, last_within (stable_part w.tc.log w.tc.stable), short, k.tc.within)) opened
+    (omega (arith, opened, last_within (beginning w.tc.log w.tc.stable), short, k.tc.within)) opened
     (record {
       begun = begun;
       served = crash_served w.tc.phase w.tc.checkpointed w.tc.session w.tc.log w.dc v k.tc.phase begun.most least

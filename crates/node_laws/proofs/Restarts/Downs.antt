@@ -8,10 +8,10 @@ use Rattle.stable.specs.Crash.{BeginsWith, MayLeave}
 use Rattle.stable.specs.LogState.{LogState, with_bytes}
 use Rattle.stable.specs.Usage.{Usage, called_often}
 use Rattle.stable.specs.PagesState.{Pages}
-use Rattle.recovery_laws.specs.Shape.{beginning}
-use Rattle.recovery_laws.proofs.Beginnings.{whole}
+use Rattle.framed_log.specs.Beginning.{beginning}
+use Rattle.framed_log.proofs.Beginning.{everything}
 use Rattle.system_txn.specs.SystemView.{SystemView}
-use Rattle.system_txn.specs.Devices.{spelled}
+use Rattle.system_txn.specs.Devices.{framing, spelled}
 use Rattle.system_txn.specs.Kept.{IsSystem, IsRecoverable}
 use Rattle.system_txn.specs.Recovering.{HoldsFrames, Recovers, RefusesRecovery}
 use Rattle.system_txn.specs.Crashed.{found, crashed}
@@ -28,7 +28,7 @@ use Rattle.tc_core.specs.Opened.{UsedByOpening}
 use Rattle.node_laws.specs.Component.{bytes_left, Keeps, dc_size, found_on, dc_used, IsUp, IsDownWith}
 use Rattle.node_laws.proofs.Restarts.Keeping.{left_stable, left_within, keeps_of, cut_to, may_leave}
 use Rattle.node_laws.proofs.Restarts.Crashes.{restarted_kept}
-use Rattle.node_laws.proofs.Restarts.Ends.{spelled_longer}
+use Rattle.framed_log.proofs.Spelled.{spelled_longer}
 
 -- ---- what is opened
 
@@ -117,7 +117,7 @@ pub record IsLeft (v : SystemView) (more bytes : ℕ) (left : List ℕ) : Type 0
   pub holds : HoldsFrames left (beginning v.log count)
 
 whole_length : (v : SystemView) → length (spelled (beginning v.log (length v.log))) ≡ length (spelled v.log)
-whole_length v = ap (λ log. length (spelled log)) (whole v.log (length v.log) (omega arith))
+whole_length v = ap (λ log. length (spelled log)) (everything v.log)
 
 -- what is seen once it has crashed
 crash_seen : (v : SystemView) (more bytes : ℕ) (log log' : LogState) (pages : Pages) (page_usage : Usage)
@@ -168,8 +168,8 @@ left_length v more bytes kept log log' pages page_usage within c =
     let some : length log.forced ≡ dc_size v.log v.stable = ap length c.stopped.just in
     let all : length log.forced + length log.pending ≡ dc_size v.log (length v.log) =
     sym (length-append log.forced log.pending) ∙ ap length c.stopped.holds ∙ sym (whole_length v) in
-    let low = left_stable (dc_size v.log) (spelled_longer v.log) v.stable (length v.log) more bytes within in
-    let high = left_within (dc_size v.log) (spelled_longer v.log) v.stable (length v.log) more bytes in
+    let low = left_stable (dc_size v.log) (spelled_longer framing v.log) v.stable (length v.log) more bytes within in
+    let high = left_within (dc_size v.log) (spelled_longer framing v.log) v.stable (length v.log) more bytes in
     ap (λ (l : LogState). length l.forced) c.left
     ∙ cut_to kept log.forced log.pending (omega (arith, some, low, c.kept_is)) (omega (arith, all, high, c.kept_is))
 
@@ -185,12 +185,12 @@ crash_leaves v more bytes kept log log' pages page_usage is rec c =
       just = λ _. c.stopped.just;
     }) c.law in
     let whole : dc_size v.log l.count ≤ length log'.forced =
-    omega (arith, ap length l.frames.parts, length-append (spelled (beginning v.log l.count)) l.frames.left) in
+    omega (arith, ap length l.is.parts, length-append (spelled (beginning v.log l.count)) l.is.left) in
     record {
       count = l.count;
       keeps = keeps_of (dc_size v.log) v.stable (length v.log) more bytes (length log'.forced) l.count
           (left_length v more bytes kept log log' pages page_usage rec.fit.kept c ∙ c.kept_is) l.stable_left l.within whole l.most;
-      holds = l.frames;
+      holds = l.is;
     }
 
 pub crash_is : (v : SystemView) (more bytes kept : ℕ) (log log' : LogState) (pages : Pages) (page_usage : Usage)

@@ -8,7 +8,7 @@ use Rattle.history.specs.declared.record.Record.TheVariants as is
 use Rattle.history.specs.Legal.{FitsCheckpoint}
 use Rattle.history.specs.Values.{HasRightAnswers}
 use Rattle.log_laws.proofs.LegalLogs.{right_rest}
-use Rattle.logical_log.specs.Low.{stable_part}
+use Rattle.framed_log.specs.Beginning.{beginning}
 use Rattle.logical_log.specs.LogView.{last_not_session}
 use Rattle.range_locks.specs.declared.span.Span.{Span}
 use Rattle.range_locks.specs.declared.span.Span.TheVariants.{Key, Range}
@@ -35,7 +35,8 @@ use Rattle.node_laws.proofs.Invariant.Announced.{part_grows}
 use Rattle.node_laws.proofs.Invariant.Grows.{IsGrown, answered_on, next_on, captured_on, leaves_on, lows_on, performed_on}
 use Rattle.node_laws.proofs.Invariant.LastRecord.{last_within, last_parts, last_left}
 use Rattle.node_laws.proofs.Invariant.Sources.{of_source, sure_within}
-use Rattle.node_laws.proofs.Restarts.Beginnings.{StaysTo, in_part, part_again}
+use Rattle.framed_log.proofs.Beginning.{twice, of_beginning}
+use Rattle.node_laws.proofs.Restarts.Beginnings.{StaysTo}
 use Rattle.node_laws.proofs.Restarts.HonestShorter.{honest_less}
 use Rattle.node_laws.proofs.Invariant.Running.{in_session}
 use Rattle.node_laws.proofs.Invariant.Written.{have_all}
@@ -92,7 +93,7 @@ source_left w tc k f = by k.from
         record {
           source = record { log = log; sure = f.kept };
           from = inr (record {
-            common = stable_part log f.kept;
+            common = beginning log f.kept;
             lost = take more log;
             since = [];
             source_is = sym (take-append-drop more log);
@@ -133,12 +134,12 @@ module _ (old new : TcView) (f : IsFallen old new) where
   left_in : (P : List Record → Type 0) → StaysTo old.stable P → P old.log → P new.log
   left_in P less h =
       subst P (sym f.log)
-      (in_part P f.kept (λ r log within. less r log (omega (arith, within, f.stable))) old.log f.within h)
+      (of_beginning P f.kept (λ r log within. less r log (omega (arith, within, f.stable))) old.log h)
 
   answered_left : (l : ℕ) → IsAnsweredTo old l → IsAnsweredTo new l
   answered_left l h =
-      let same : stable_part new.log new.stable ≡ stable_part old.log f.kept =
-      (λ i. stable_part (f.log i) (f.all i)) ∙ part_again old.log f.kept f.within in
+      let same : beginning new.log new.stable ≡ beginning old.log f.kept =
+      (λ i. beginning (f.log i) (f.all i)) ∙ twice old.log f.kept f.kept (omega arith) in
       subst (λ log. FitsCheckpoint log l) (sym same) (part_grows old.log old.stable f.kept l f.stable f.within h)
 
   -- ---- 4. leaves, pages and logged leaves
@@ -238,11 +239,11 @@ module _ (old new : TcView) (f : IsFallen old new) where
   all_stable : length new.log ≤ new.stable
   all_stable = omega (arith, f.all, ap length f.log, length-drop (length old.log - f.kept) old.log, f.within)
 
-  opened_left : (n : ℕ) → n ≤ last_not_session (stable_part old.log old.stable)
-      → n ≤ last_not_session (stable_part new.log new.stable)
+  opened_left : (n : ℕ) → n ≤ last_not_session (beginning old.log old.stable)
+      → n ≤ last_not_session (beginning new.log new.stable)
   opened_left n h =
-      let same : stable_part new.log new.stable ≡ stable_part old.log f.kept =
-      (λ i. stable_part (f.log i) (f.all i)) ∙ part_again old.log f.kept f.within in
+      let same : beginning new.log new.stable ≡ beginning old.log f.kept =
+      (λ i. beginning (f.log i) (f.all i)) ∙ twice old.log f.kept f.kept (omega arith) in
       omega (arith, h, last_parts old.log old.stable f.kept f.stable f.within, ap last_not_session same)
 
   -- ---- 9. sessions

@@ -12,7 +12,7 @@ use Rattle.history.specs.Spans.{Span}
 use Rattle.history.specs.ListMachine.{Machine, Crashes}
 use Rattle.log_laws.proofs.LegalLogs.{begun_number}
 use Rattle.log_laws.proofs.Records.{within}
-use Rattle.logical_log.specs.Low.{stable_part}
+use Rattle.framed_log.specs.Beginning.{beginning}
 use Rattle.range_locks.specs.Locks.{spans_of}
 use Rattle.restart.specs.Losers.{txns, IsLoser}
 use Rattle.simulation.specs.View.{View, StandsFor, is_begin, is_left_open, opened}
@@ -39,7 +39,7 @@ use Rattle.node_laws.specs.declared.event.Event.TheVariants as event
 use Rattle.node_laws.specs.declared.event.Out.{Out}
 use Rattle.node_laws.specs.declared.event.Out.TheVariants as out
 use Rattle.node_laws.proofs.Restarts.Crashes.{keeps_up}
-use Rattle.node_laws.proofs.Restarts.Ends.{part_all}
+use Rattle.framed_log.proofs.Beginning.{everything}
 use Rattle.node_laws.proofs.Restarts.Fallen.{fallen_is_kept}
 use Rattle.node_laws.proofs.Machine.Follows.{Follows, IsLeft, at_new, no_line, one_line, unchanged, kept_left, stands_left}
 
@@ -126,7 +126,7 @@ stands_over bytes usage w m k is stands =
 crash_leads : (w : TcView) (m : Machine) (n : ℕ) → IsTc w → IsTc (crashed w n) → w.stable ≤ n → n ≤ length w.log
     → StandsFor (clients w) m → LeadsTo (clients w) m Crashes (clients (crashed w n))
 crash_leads w m n k is le within stands =
-    let older : List Record = stable_part w.log n in
+    let older : List Record = beginning w.log n in
     let count : length older ≡ n = omega (arith, length-drop (length w.log - n) w.log, within) in
     let step = crash_is_a_step (clients w) m (take (length w.log - n) w.log) older k.legal stands
     (sym (take-append-drop (length w.log - n) w.log)) (omega (arith, le, count)) in
@@ -173,7 +173,7 @@ restart_falls old new again le = record {
   kept = length old.log;
   stable = le;
   within = omega arith;
-  log = ap (λ (w : TcView). w.log) again.is ∙ sym (part_all old.log (length old.log) (omega arith));
+  log = ap (λ (w : TcView). w.log) again.is ∙ sym (everything old.log);
   all = ap (λ (w : TcView). w.stable) again.is;
   session = ap (λ (w : TcView). w.session) again.is;
   unconnected = ap (λ (w : TcView). w.phase) again.is;

@@ -5,24 +5,25 @@ use Rattle.history.specs.declared.record.Record.{Record}
 use Rattle.stable.specs.Crash.{BeginsWith, MayLeave}
 use Rattle.stable.specs.LogState.{LogState, with_bytes}
 use Rattle.stable.specs.Usage.{Usage}
-use Rattle.logical_log.specs.Low.{stable_part}
+use Rattle.framed_log.specs.Beginning.{beginning}
+use Rattle.framed_log.proofs.Beginning.{everything}
+use Rattle.framed_log.proofs.Spelled.{spelled_longer}
 use Rattle.logical_log.specs.Opening.{IsLogOf}
-use Rattle.logical_log.specs.Spelled.{spelled, AreRecords}
+use Rattle.logical_log.specs.Spelled.{framing, spelled, AreRecords}
 use Rattle.logical_log.proofs.Crashed.{crash_leaves, opens_once}
 use Rattle.tc_core.specs.TcView.{TcView, used_so}
 use Rattle.tc_core.specs.Kept.{IsTc}
 use Rattle.tc_core.specs.Opened.{opens_as, crashed}
 use Rattle.node_laws.specs.Component.{bytes_left, Keeps, tc_size}
 use Rattle.node_laws.proofs.Restarts.Keeping.{left_stable, left_within, keeps_of, cut_to, may_leave}
-use Rattle.node_laws.proofs.Restarts.Ends.{part_all, records_longer}
 
 -- ---- a crash
 
 -- the device of a component that stopped
 pub record IsHalted (w : TcView) (device : LogState) : Type 0 where
   pub holds : device.forced ++ device.pending ≡ spelled w.log
-  pub forced : BeginsWith device.forced (spelled (stable_part w.log w.stable))
-  pub just : device.forced ≡ spelled (stable_part w.log w.stable)
+  pub forced : BeginsWith device.forced (spelled (beginning w.log w.stable))
+  pub just : device.forced ≡ spelled (beginning w.log w.stable)
   pub spellable : AreRecords w.log
   pub usage : device.usage ≡ w.usage
 
@@ -30,7 +31,7 @@ pub record IsHalted (w : TcView) (device : LogState) : Type 0 where
 pub record IsKeptOf (w : TcView) (more bytes : ℕ) (left : List ℕ) : Type 0 where
   pub count : ℕ
   pub keeps : Keeps (tc_size w.log) w.stable (length w.log) more bytes count
-  pub holds : IsLogOf left (stable_part w.log count)
+  pub holds : IsLogOf left (beginning w.log count)
 
 -- the component crashed so
 pub record IsTcCrash (w : TcView) (more bytes kept : ℕ) (device device' : LogState) : Type 0 where
@@ -42,10 +43,10 @@ pub record IsTcCrash (w : TcView) (more bytes kept : ℕ) (device device' : LogS
 module _ (w : TcView) (device : LogState) where
   -- so many bytes has the log
   pub device_length : (end records : ℕ) → device.forced ++ device.pending ≡ spelled w.log → records ≡ length w.log
-      → end ≡ length (spelled (stable_part w.log records)) → end ≡ length device.forced + length device.pending
+      → end ≡ length (spelled (beginning w.log records)) → end ≡ length device.forced + length device.pending
   device_length end records holds all is =
-      is ∙ ap (λ n. length (spelled (stable_part w.log n))) all
-      ∙ ap (λ l. length (spelled l)) (part_all w.log (length w.log) (omega arith))
+      is ∙ ap (λ n. length (spelled (beginning w.log n))) all
+      ∙ ap (λ l. length (spelled l)) (everything w.log)
       ∙ sym (ap length holds) ∙ length-append device.forced device.pending
 
   pub tc_crash_of : (more bytes kept end cut : ℕ) (device' : LogState)
@@ -72,9 +73,9 @@ module _ (w : TcView) (device : LogState) where
       let some : length device.forced ≡ tc_size w.log w.stable = ap length c.halted.just in
       let all : length device.forced + length device.pending ≡ tc_size w.log (length w.log) =
       sym (length-append device.forced device.pending) ∙ ap length c.halted.holds
-      ∙ sym (ap (λ l. length (spelled l)) (part_all w.log (length w.log) (omega arith))) in
-      let low = left_stable (tc_size w.log) (records_longer w.log) w.stable (length w.log) more bytes within in
-      let high = left_within (tc_size w.log) (records_longer w.log) w.stable (length w.log) more bytes in
+      ∙ sym (ap (λ l. length (spelled l)) (everything w.log)) in
+      let low = left_stable (tc_size w.log) (spelled_longer framing w.log) w.stable (length w.log) more bytes within in
+      let high = left_within (tc_size w.log) (spelled_longer framing w.log) w.stable (length w.log) more bytes in
       ap (λ (l : LogState). length l.forced) c.left
       ∙ cut_to kept device.forced device.pending (omega (arith, some, low, c.kept_is))
       (omega (arith, all, high, c.kept_is))
@@ -84,15 +85,15 @@ module _ (w : TcView) (device : LogState) where
   kept_left more bytes kept device' is c =
       let left = crash_leaves w.log w.stable device.forced device.pending device'.forced is.legal c.halted.spellable
       (omega (arith, is.few.records)) is.within c.halted.holds c.halted.forced c.law in
-      let whole : tc_size w.log left.kept ≤ length device'.forced =
+      let whole : tc_size w.log left.count ≤ length device'.forced =
       omega (
         arith,
-        ap length left.is.begins.parts,
-        length-append (spelled (stable_part w.log left.kept)) left.is.left,
+        ap length left.is.frames.parts,
+        length-append (spelled (beginning w.log left.count)) left.is.frames.left,
       ) in
       record {
-        count = left.kept;
-        keeps = keeps_of (tc_size w.log) w.stable (length w.log) more bytes (length device'.forced) left.kept
+        count = left.count;
+        keeps = keeps_of (tc_size w.log) w.stable (length w.log) more bytes (length device'.forced) left.count
             (left_length more bytes kept device' is.within c ∙ c.kept_is) left.stable_left left.within whole left.most;
         holds = left.is;
       }
@@ -104,8 +105,8 @@ module _ (w : TcView) (device : LogState) where
       × (opens_as later device'.usage ≡ crashed w n)
   tc_crash_is more bytes kept device' later is c again =
       let left = kept_left more bytes kept device' is c in
-      let same : later ≡ stable_part w.log left.count =
-      opens_once device'.forced later (stable_part w.log left.count) again left.holds in
+      let same : later ≡ beginning w.log left.count =
+      opens_once device'.forced later (beginning w.log left.count) again left.holds in
       let usage : device'.usage ≡ w.usage = ap (λ (l : LogState). l.usage) c.left ∙ c.halted.usage in
       (left.count, left.keeps, λ i. opens_as (same i) (usage i))
 

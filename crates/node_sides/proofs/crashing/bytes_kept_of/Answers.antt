@@ -1,6 +1,7 @@
 use Rattle.std.proofs.Common.{◌≡◌, ℕ, ◌+◌, ◌∙◌, ap, length, arith}
 use Rattle.node_laws.specs.Component.{lesser, tc_size}
-use Rattle.node_laws.proofs.Restarts.Ends.{records_longer}
+use Rattle.framed_log.proofs.Spelled.{spelled_longer}
+use Rattle.logical_log.specs.Spelled.{framing}
 use Rattle.node_laws.proofs.Restarts.Keeping.{lesser_next}
 use Rattle.node_sides.proofs.crashing.bytes_kept_of.Goals as goal
 
@@ -8,7 +9,7 @@ pub with_part-requires : goal.with_part-requires
 with_part-requires g c =
     omega (
       arith,
-      records_longer c.args.tc.now.log c.whole_of-whole.result c.after.result c.after.ensures.next,
+      spelled_longer framing c.args.tc.now.log c.whole_of-whole.result c.after.result c.after.ensures.next,
       c.end_of-end.ensures,
       c.end_of.ensures,
     )

@@ -4,10 +4,11 @@ use Rattle.history.specs.declared.record.Record.{Record}
 use Rattle.history.specs.declared.record.Record.TheVariants as is
 use Rattle.history.specs.Log.{record_at, before}
 use Rattle.history.specs.Values.{HasRightAnswers}
-use Rattle.logical_log.specs.Low.{stable_part}
+use Rattle.framed_log.specs.Beginning.{beginning}
+use Rattle.framed_log.proofs.Beginning.{everything}
 use Rattle.logical_log.proofs.Spelled.{has_record}
 use Rattle.node_store.specs.Opening.{HasNoCheckpoint}
-use Rattle.node_store.proofs.Prefixes.{part_none, part_whole, part_next, before_is, none_checked, still_none, first_at}
+use Rattle.node_store.proofs.Prefixes.{part_none, part_next, before_is, none_checked, still_none, first_at}
 use Rattle.node_store.proofs.judging.judge.Goals as goal
 
 pub loop-end-init : goal.loop-end-init
@@ -82,7 +83,7 @@ returns-clause-fit g c =
     let log = c.args.frames.now.records in
     let all : c.loop-end.end ≡ length log =
     omega (arith, c.loop-end-test.false, c.len.ensures.count, c.loop-end.invariant.2) in
-    let same : c.loop-end.replay ≡ log = c.loop-end.invariant.0 ∙ ap (stable_part log) all ∙ part_whole log in
+    let same : c.loop-end.replay ≡ log = c.loop-end.invariant.0 ∙ ap (beginning log) all ∙ everything log in
     record {
       right = subst HasRightAnswers same c.kept.ensures;
       unchecked = subst HasNoCheckpoint same c.loop-end.invariant.1;

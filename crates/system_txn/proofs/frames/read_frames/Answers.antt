@@ -2,7 +2,8 @@ use Rattle.std.proofs.Common.{◌≡◌, ℕ, ◌<◌, ◌^◌, List, length, dr
 use Rattle.std.proofs.lemmas.Grind.{common_steps}
 use Rattle.std.proofs.lemmas.Result.{err_from_is_err_and}
 use Rattle.record_key.specs.declared.refusal.Refusal.TheVariants.{BadBytes}
-use Rattle.system_txn.specs.Recovering.{IsNoFrame}
+use Rattle.framed_log.specs.Opening.{IsNoFrame}
+use Rattle.system_txn.specs.Devices.{framing}
 use Rattle.system_txn.proofs.HasRead.{IsNext, read_nothing, read_more, less_left, refused_next, refused_here}
 use Rattle.system_txn.proofs.frames.read_frames.Goals as goal
 
@@ -46,7 +47,7 @@ returns-in-Bad-clause-refused c =
     let old = c.loop-reading.reading in
     let given = c.in_ok-found.ensures in
     let here : c.in-Bad.place ≡ old.end = rw c.in-Bad.is at given.bad in
-    let none : IsNoFrame (drop old.end bytes) = record {
+    let none : IsNoFrame framing (drop old.end bytes) = record {
       uncut = λ cut. let short = given.short.1 cut in let is = c.in-Bad.is in cc;
       none = λ r stands. let taken = given.only r stands.rest stands.fits.0 stands.parts in let is = c.in-Bad.is in cc;
     } in

@@ -3,7 +3,7 @@ use Rattle.std.specs.BTreeMap.{get}
 use Rattle.std.specs.Ordering.{nat_cmp}
 use Rattle.history.specs.declared.record.Record.{Record}
 use Rattle.history.specs.Log.{record_at}
-use Rattle.logical_log.proofs.Answered.{part_whole}
+use Rattle.framed_log.proofs.Beginning.{everything}
 use Rattle.range_locks.specs.Rebuilt.{Listed, listed_spans}
 use Rattle.tc_core.specs.Locking.{op_spans}
 use Rattle.tc_core.specs.Opening.{spans_if}
@@ -42,4 +42,4 @@ returns g c t =
     omega (arith, c.loop-end-test.false, c.len-records.ensures.count, c.loop-end.auto.end-end) in
     let P : ℕ → Type 0 = λ n. AreNoted log n c.loop-end.keys.items noted in
     let Q : List Record → Type 0 = λ p. listed_spans c.loop-end.keys.items t ≡ spans_if (noted t) (op_spans p t) in
-    subst Q (part_whole log) (subst P e c.loop-end.invariant t)
+    subst Q (everything log) (subst P e c.loop-end.invariant t)

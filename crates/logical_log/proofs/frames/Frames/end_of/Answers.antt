@@ -3,26 +3,26 @@ use Rattle.history.specs.declared.record.Record.{Record}
 use Rattle.codec.specs.FrameIndex.{place_at}
 use Rattle.codec.proofs.Indexed.{place_of}
 use Rattle.logical_log.specs.Kept.{AreIndexed}
-use Rattle.logical_log.specs.Low.{stable_part}
-use Rattle.logical_log.specs.Spelled.{spelled, records_of}
-use Rattle.logical_log.proofs.Answered.{part_whole}
+use Rattle.framed_log.specs.Beginning.{beginning}
+use Rattle.logical_log.specs.Spelled.{framing, spelled, records_of}
+use Rattle.framed_log.proofs.Beginning.{everything}
 use Rattle.logical_log.proofs.Framed.{indexed_count}
-use Rattle.logical_log.proofs.Spelled.{place_at as begins_at}
+use Rattle.framed_log.proofs.Spelled.{place_at as begins_at}
 use Rattle.logical_log.proofs.frames.Frames.end_of.Goals as goal
 
 -- before the last record its frame's place is the end, and after that the log's
 at_place : (log : List Record) (bytes left marks : List ℕ) (count : ℕ) (answers : List ℕ) (end n : ℕ)
     → AreIndexed log bytes left marks count answers end → n < count
-    → place_at bytes n ≡ length (spelled (stable_part log n))
+    → place_at bytes n ≡ length (spelled (beginning log n))
 at_place log bytes left marks count answers end n h less =
     sym (place_of bytes count n 0 less) ∙ ap (λ (xs : List ℕ). get_or xs n 0) h.frames.begins_are
-    ∙ begins_at log n 0 (omega (arith, less, indexed_count log bytes left marks count answers end h))
+    ∙ begins_at framing log n 0 (omega (arith, less, indexed_count log bytes left marks count answers end h))
 
 at_end : (log : List Record) (n end : ℕ) → length log ≤ n
-    → n ≤ length log → end ≡ length (spelled log) → end ≡ length (spelled (stable_part log n))
+    → n ≤ length log → end ≡ length (spelled log) → end ≡ length (spelled (beginning log n))
 at_end log n end all within is =
     let last : n ≡ length log = omega (arith, all, within) in
-    is ∙ ap (λ (l : List Record). length (spelled l)) (sym (ap (stable_part log) last ∙ part_whole log))
+    is ∙ ap (λ (l : List Record). length (spelled l)) (sym (ap (beginning log) last ∙ everything log))
 
 pub returns-then-count-len : goal.returns-then-count-len
 returns-then-count-len g c =

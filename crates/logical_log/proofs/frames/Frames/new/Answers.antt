@@ -1,11 +1,12 @@
 use Rattle.std.proofs.Common.{◌≡◌, List, ℕ, [], ◌++◌, refl}
 use Rattle.codec.specs.FrameIndex.{places_of}
-use Rattle.logical_log.specs.Spelled.{records_at, records_of}
+use Rattle.framed_log.specs.Spelled as framed
+use Rattle.logical_log.specs.Spelled.{records_of}
 use Rattle.logical_log.proofs.Framed.{indexed_unread}
 use Rattle.logical_log.proofs.frames.Frames.new.Goals as goal
 
 none_read : (bytes : List ℕ) → records_of bytes 0 ≡ []
-unfolding records_at places_of
+unfolding framed.records_at places_of
 none_read bytes = refl
 
 pub invariant_of-result : goal.invariant_of-result

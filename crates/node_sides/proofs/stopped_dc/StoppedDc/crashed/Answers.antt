@@ -1,5 +1,5 @@
 use Rattle.std.proofs.Common.{◌∙◌, arith}
-use Rattle.recovery_laws.specs.Shape.{beginning}
+use Rattle.framed_log.specs.Beginning.{beginning}
 use Rattle.stable.specs.LogState.{LogState}
 use Rattle.node_laws.proofs.Restarts.Downs.{IsStopped, IsCrash, log_length, crash_of, crash_leaves, crash_is, crash_found}
 use Rattle.node_sides.proofs.stopped_dc.StoppedDc.crashed.Goals as goal

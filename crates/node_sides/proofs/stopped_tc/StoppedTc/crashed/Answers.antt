@@ -1,5 +1,5 @@
 use Rattle.std.proofs.Common.{arith}
-use Rattle.logical_log.specs.Low.{stable_part}
+use Rattle.framed_log.specs.Beginning.{beginning}
 use Rattle.stable.specs.LogState.{LogState}
 use Rattle.node_laws.proofs.Restarts.TcDowns.{IsHalted, device_length, tc_crash_of, kept_left, tc_crash_is}
 use Rattle.node_sides.proofs.stopped_tc.StoppedTc.crashed.Goals as goal
@@ -43,7 +43,7 @@ on-found-requires g c =
     }) c.bytes_kept_of-kept.ensures in
     let left = kept_left w device c.args.frames c.args.bytes c.bytes_kept_of-kept.result (state g c.crash.new.self)
     c.kept.ensures crash in
-    (stable_part w.log left.count, left.holds)
+    (beginning w.log left.count, left.holds)
 
 pub invariant_of-result : goal.invariant_of-result
 invariant_of-result g c = (c.on-found.ensures, c.crash.ensures.none_pending)

@@ -5,6 +5,6 @@ use Rattle.node_sides.proofs.stopped_tc.StoppedTc.kept.Goals as goal
 
 pub returns : goal.returns
 returns g c =
-    let begins = c.self.invariant.0.begins in
+    let log = c.self.invariant.0 in
     subst IsTc c.self.view_is
-    (opened_kept c.self.inside.found.log (g.D.LogDevice.usage c.self.inside.device) begins.legal (omega (arith, begins.numbered)))
+    (opened_kept c.self.inside.found.log (g.D.LogDevice.usage c.self.inside.device) log.legal (omega (arith, log.numbered)))

@@ -1,10 +1,10 @@
 use Rattle.std.proofs.Common.{◌≡◌, ℕ, ◌∙◌, ◌<◌, ◌≤◌, List, sym, ap, arith, length, get_or}
 use Rattle.std.proofs.lemmas.Grind.{common_steps}
 use Rattle.codec.specs.declared.dc_record.DcRecord.{DcRecord}
-use Rattle.recovery_laws.specs.Shape.{beginning}
-use Rattle.recovery_laws.proofs.Beginnings.{whole}
-use Rattle.system_txn.specs.Devices.{spelled, places}
-use Rattle.system_txn.proofs.Spelled.{length-places, place_at}
+use Rattle.framed_log.specs.Beginning.{beginning}
+use Rattle.framed_log.proofs.Beginning.{whole}
+use Rattle.system_txn.specs.Devices.{framing, spelled, places}
+use Rattle.framed_log.proofs.Spelled.{length-places, place_at}
 use Rattle.system_txn.proofs.change_log.ChangeLog.end_of.Goals as goal
 
 -- before the last record its frame's place is the end, and after that the log's
@@ -12,13 +12,13 @@ at_place : (log : List DcRecord) (items : List ℕ) (n len x : ℕ) → items �
     → get_or items n x ≡ length (spelled (beginning log n))
 at_place log items n len x are count less =
     ap (λ (xs : List ℕ). get_or xs n x) are
-    ∙ place_at log n x (omega (arith, less, count, ap length are, length-places log))
+    ∙ place_at framing log n x (omega (arith, less, count, ap length are, length-places framing log))
 
 at_end : (log : List DcRecord) (items : List ℕ) (n len end : ℕ) → items ≡ places log → len ≡ length items → len ≤ n
     → end ≡ length (spelled log) → end ≡ length (spelled (beginning log n))
 at_end log items n len end are count all is =
     is ∙ ap (λ (l : List DcRecord). length (spelled l))
-    (sym (whole log n (omega (arith, all, count, ap length are, length-places log))))
+    (sym (whole log n (omega (arith, all, count, ap length are, length-places framing log))))
 
 pub returns-then-count-len : goal.returns-then-count-len
 returns-then-count-len g c =

@@ -2,9 +2,9 @@ use Rattle.std.proofs.Common.{◌≡◌, ◌∙◌, ◌++◌, ap, subst, length,
 use Rattle.std.proofs.lemmas.Grind.{common_steps}
 use Rattle.stable.specs.Usage.{called}
 use Rattle.system_txn.specs.LogView.{ChangeLogView}
-use Rattle.system_txn.specs.Devices.{records_at}
+use Rattle.system_txn.specs.Devices.{framing, records_at}
 use Rattle.system_txn.proofs.KeepsLog.{IsKept, kept_forced, kept_so, same_log}
-use Rattle.system_txn.proofs.Spelled.{length-places}
+use Rattle.framed_log.proofs.Spelled.{length-places}
 use Rattle.system_txn.proofs.change_log.ChangeLog.force.Goals as goal
 
 -- all records are forced
@@ -17,7 +17,7 @@ now g c =
     let m = c.self.inside in
     let items = m.places.items in
     let len : c.len.result ≡ length items = grind (arith, common_steps) in
-    rw (len ∙ ap length c.self.invariant.1.begins_are ∙ length-places _)
+    rw (len ∙ ap length c.self.invariant.1.begins_are ∙ length-places framing _)
     (kept_forced g.D.LogDevice.forces_whole _ m.stable _ _ _ _ items m.end m.next_id c.self.invariant
     c.in_default.ensures.all_forced c.in_default.ensures.none_pending)
 
@@ -29,7 +29,7 @@ returns-clause-forced g c =
     let log = same_log _ _ _ _ _ _ _ _ (now g c) in
     let items = c.self.inside.places.items in
     let len : c.len.result ≡ length items = grind (arith, common_steps) in
-    let count = len ∙ ap length c.self.invariant.1.begins_are ∙ length-places _ in
+    let count = len ∙ ap length c.self.invariant.1.begins_are ∙ length-places framing _ in
     let counted : g.D.LogDevice.usage c.force.new.self ≡ called (g.D.LogDevice.usage c.self.inside.device) =
     rw c.in_default.is at c.force.ensures.used in
     let Seen : ChangeLogView → Type 0 = λ v. record {

@@ -15,7 +15,6 @@ returns-in-Ok-open-clause-kept g c =
       stable = l.stable;
     } in
     let kept = c.in-Ok.ensures in
-    let begins = kept.log.begins in
     subst IsTc (sym (c.of.ensures ∙ ap of c.in-Ok-open.ensures.opened))
-    (opened_tc found.records _ work.redo_start work.losers locks begins.legal (omega (arith, begins.numbered))
+    (opened_tc found.records _ work.redo_start work.losers locks kept.log.legal (omega (arith, kept.log.numbered))
     kept.losers kept.all kept.redo kept.held)

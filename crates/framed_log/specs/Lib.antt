@@ -1,0 +1,5 @@
+pub mod Beginning
+pub mod Crashed
+pub mod Opening
+pub mod Refused
+pub mod Spelled
