@@ -24,4 +24,5 @@ mod Apart
 mod ApartReads
 mod KeptRows
 mod LongHeads
+mod Starts
 pub mod UndoBytes

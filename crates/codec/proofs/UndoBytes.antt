@@ -1,5 +1,5 @@
 -- How the bytes of an operation and of its answer spell what undoes it.
-use Rattle.std.proofs.Common.{◌≡◌, ◌≢◌, ◌∙◌, ℕ, ◌<◌, ◌⊎◌, inl, inr, List, [], ◌∷◌, ◌++◌, length, take, drop, Option, Some, None, is_some, option_map, refl, sym, ap, append_assoc, arith}
+use Rattle.std.proofs.Common.{◌≡◌, ◌≢◌, ◌∙◌, ℕ, ◌<◌, ◌⊎◌, inl, inr, List, [], ◌∷◌, ◌++◌, length, take, drop, Option, Some, None, is_some, option_map, refl, sym, ap, arith}
 use Rattle.std.specs.Prelude.{nat_lt, Result, Ok, Err, OnOk, ◌≤◌, ◌+◌}
 use Rattle.std.proofs.lemmas.List.{append-nil, take_at, drop_at, length-append}
 use Rattle.history.specs.declared.record.Record.{Record}
@@ -18,7 +18,7 @@ use Rattle.codec.specs.Records.{record_bytes}
 use Rattle.codec.specs.Undoing.{answer_held, comp_bytes}
 use Rattle.codec.specs.Frames.{frame}
 use Rattle.codec.specs.Reading.{count_at}
-use Rattle.codec.proofs.Fields.{length-number, numbers_length, count_reads}
+use Rattle.codec.proofs.Fields.{length-number, count_reads}
 use Rattle.codec.proofs.Told.{first, kind, fields, IsSplit, split}
 
 -- ---- an operation's key
@@ -292,38 +292,7 @@ module _ (r : Record) (body : List ℕ) (n : ℕ) (tail : List ℕ) (begins : bo
 
 -- ---- the frame of a Comp record
 
--- its body in the parts that are written
-pub comp_length : (n : CompNumbers) (head key rest : List ℕ)
-    → 25 + length head + length key + length rest ≡ length (comp_bytes n (head ++ (key ++ rest)))
-comp_length n head key rest =
-    omega (
-      arith,
-      numbers_length n.txn (number n.undoes ++ (number n.next ++ (head ++ (key ++ rest)))),
-      numbers_length n.undoes (number n.next ++ (head ++ (key ++ rest))),
-      numbers_length n.next (head ++ (key ++ rest)),
-      length-append head (key ++ rest),
-      length-append key rest,
-    )
-
-pub comp_parts : (old : List ℕ) (n : CompNumbers) (len : ℕ) (head key rest : List ℕ)
-    → len ≡ length (comp_bytes n (head ++ (key ++ rest)))
-    → (((((old ++ number len) ++ (5 ∷ number n.txn ++ number n.undoes)) ++ number n.next) ++ head) ++ key) ++ rest
-    ≡ old ++ frame (comp_bytes n (head ++ (key ++ rest)))
-comp_parts old n len head key rest is =
-    let numbers : List ℕ = 5 ∷ number n.txn ++ number n.undoes in
-    let next : List ℕ = number n.next in
-    let before : List ℕ = ((old ++ number len) ++ numbers) ++ next in
-    let tail : List ℕ = head ++ (key ++ rest) in
-    append_assoc (before ++ head) key rest
-    ∙ append_assoc before head (key ++ rest)
-    ∙ append_assoc ((old ++ number len) ++ numbers) next tail
-    ∙ append_assoc (old ++ number len) numbers (next ++ tail)
-    ∙ append_assoc old (number len) (numbers ++ (next ++ tail))
-    ∙ ap (λ (b : List ℕ). old ++ (number len ++ (5 ∷ b)))
-    (append_assoc (number n.txn) (number n.undoes) (next ++ tail))
-    ∙ ap (λ (m : ℕ). old ++ (number m ++ comp_bytes n tail)) is
-
--- so it is that of the record, where the inverse is spelled so
+-- it is that of the record, where the inverse is spelled so
 pub comp_spelled : {T : Type 0} (result : Result T Refusal) (new old tail : List ℕ) (n : CompNumbers) (i : Option Op)
     → OnOk result (new ≡ old ++ frame (comp_bytes n tail)) → tail ≡ optional op_bytes i
     → OnOk result (new ≡ old ++ frame (record_bytes (is.Comp n.txn n.undoes n.next i)))

@@ -1,4 +1,5 @@
--- Where frames begin that stand one after another from the front of bytes, told by marks at each eighth of them.
+-- Where frames begin that stand one after another from the front of bytes, told by marks at the latest and at each
+-- eighth of them.
 use Rattle.std.specs.Prelude.{ℕ, zero, suc, ◌+◌, ◌≤◌, Bool, List, [], ◌∷◌, ◌++◌, length, drop}
 use Rattle.codec.specs.Fields.{first_number}
 use Rattle.codec.specs.Marks.{AreMarks}
@@ -17,13 +18,13 @@ unfoldable pub places_of : List ℕ → ℕ → List ℕ
 places_of bytes zero = []
 places_of bytes (suc n) = places_of bytes n ++ place_at bytes n ∷ []
 
--- what is seen of an index: the place of each eighth frame, how many frames there are, and whether one more has room
+-- what is seen of an index: the places that it marks, how many frames there are, and whether one more has room
 pub record FrameIndexView : Type 0 where
   pub marks : List ℕ
   pub count : ℕ
   pub has_room : Bool
 
--- the marks are the places of each eighth of so many frames, and all of these frames are whole
+-- the marks are the places of the latest and of each eighth of so many frames, and all of these frames are whole
 pub record Indexes (bytes marks : List ℕ) (count : ℕ) : Type 0 where
   pub indexed : AreMarks (place_at bytes) marks count
   pub whole : place_at bytes count ≤ length bytes

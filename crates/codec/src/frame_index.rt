@@ -1,4 +1,5 @@
-//! Where the frames of a buffer begin, in little memory: each eighth place is kept, and the others are found from it.
+//! Where the frames of a buffer begin, in little memory: the latest place is kept and each eighth, and the others are
+//! found from these.
 ghost use Rattle.std.specs.Prelude.{◌≡◌, ◌+◌, ◌<◌, ◌≤◌, true, false, [], length, OnOk, OnErr};
 ghost use Rattle.codec.specs.FrameIndex.{next_at, place_at, Indexes};
 ghost use Rattle.codec.specs.Marks.{marked};
@@ -14,7 +15,7 @@ const STEP: usize = 8;
 /// Where frames begin that stand one after another from the front of a buffer. It doesn't hold the buffer.
 #[derive(Drop)]
 pub struct FrameIndex {
-    // Where each eighth frame begins, from the first on.
+    // Where each eighth frame begins. The first of all begins at 0: in its stead stands where the latest begins.
     marks: Vec<usize>,
     // How many frames there are.
     count: usize,
@@ -72,16 +73,26 @@ impl FrameIndex {
         if self.count % STEP == 0 {
             self.marks.push_reserved(place);
         }
+        if !self.marks.is_empty() {
+            self.marks[0] = place;
+        }
         self.count += 1;
     }
 
-    /// Where the frame begins that has so many before it, told by reading at most seven lengths.
+    /// Where the frame begins that has so many before it, told by reading at most seven lengths, none for the latest.
     pub fn place(&self, bytes: &[u8], before: usize) -> usize
         requires indexed { Indexes bytes.now self.now.marks self.now.count }
         requires there { before < self.now.count }
         ensures { result ≡ place_at bytes.now before }
     {
-        let mut place = self.marks[before / STEP];
+        if before == self.count - 1 {
+            return self.marks[0];
+        }
+        let mut place = if before < STEP {
+            0
+        } else {
+            self.marks[before / STEP]
+        };
         for _ in 0..before % STEP {
             place = after(bytes, place);
         }

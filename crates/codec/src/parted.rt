@@ -16,7 +16,7 @@ use crate::frame::{HEADER_LEN, left_at, take_body};
 use crate::lengths::answer_len;
 use crate::reading::{take_number, take_op, take_optional_answer};
 use crate::taken::Taken;
-use crate::writing::{put_answer, put_byte, put_long_head, put_number};
+use crate::writing::{put_answer, put_byte, put_long_start};
 use record_key::{Answer, Op, Refusal};
 
 /// A request to perform an operation, without the operation.
@@ -120,8 +120,7 @@ pub fn put_answered(
         Some(answer) => 18 + answer_len(answer),
     };
     out.reserve(HEADER_LEN + length)?;
-    put_number(out, length as u64);
-    put_long_head(out, 0x12, session, number);
+    put_long_start(out, length, 0x12, session, number);
     match answer {
         None => put_byte(out, 0),
         Some(answer) => {

@@ -16,7 +16,8 @@ use crate::lengths::{answer_len, op_len, optional_op_len};
 use crate::reading::{take_answer, take_number, take_op, take_optional_op};
 use crate::taken::Taken;
 use crate::writing::{
-    put_answer, put_byte, put_head, put_long_head, put_number, put_op, put_optional_op,
+    put_answer, put_byte, put_head, put_long_head, put_long_start, put_number, put_op,
+    put_optional_op, put_start,
 };
 use history::Record;
 use record_key::{Answer, Op, Refusal};
@@ -52,8 +53,7 @@ pub fn put_op_record(out: &mut Vec<u8>, txn: u64, prev: u64, op: &Op) -> Result<
 {
     let length = 17 + op_len(op);
     out.reserve(HEADER_LEN + length)?;
-    put_number(out, length as u64);
-    put_long_head(out, 3, txn, prev);
+    put_long_start(out, length, 3, txn, prev);
     put_op(out, op);
     Ok(())
 }
@@ -71,8 +71,7 @@ pub fn put_answer_record(out: &mut Vec<u8>, of: u64, answer: &Answer) -> Result<
 {
     let length = 9 + answer_len(answer);
     out.reserve(HEADER_LEN + length)?;
-    put_number(out, length as u64);
-    put_head(out, 4, of);
+    put_start(out, length, 4, of);
     put_answer(out, answer);
     Ok(())
 }

@@ -15,7 +15,7 @@ ghost use Rattle.codec.specs.Writing.{Puts};
 use crate::frame::{HEADER_LEN, left_at, take_body};
 use crate::record::RECORD_LIMIT;
 use crate::taken::Taken;
-use crate::writing::{put_bytes, put_long_head, put_number};
+use crate::writing::{put_bytes, put_longer_start};
 use record_key::Refusal;
 
 /// The bytes that spell the operation which the record whose frame begins at a place asks for, if any. Takes no memory.
@@ -74,9 +74,7 @@ pub fn put_perform(
 {
     let length = 25 + op.len();
     out.reserve(HEADER_LEN + length)?;
-    put_number(out, length as u64);
-    put_long_head(out, 2, session, number);
-    put_number(out, stable);
+    put_longer_start(out, length, 2, session, number, stable);
     put_bytes(out, op);
     Ok(())
 }

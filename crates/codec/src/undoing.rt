@@ -19,7 +19,7 @@ use crate::reading::take_count;
 use crate::record::RECORD_LIMIT;
 use crate::spelled_op::asked_bytes;
 use crate::taken::Taken;
-use crate::writing::{put_bytes, put_few, put_long_head, put_number};
+use crate::writing::{put_bytes, put_few, put_longer_start};
 use byteorder::{BigEndian, ByteOrder};
 use record_key::Refusal;
 
@@ -178,9 +178,7 @@ fn put_comp(
 {
     let length = 25 + head.len() + key.len() + rest.len();
     out.reserve(HEADER_LEN + length)?;
-    put_number(out, length as u64);
-    put_long_head(out, 5, numbers.txn, numbers.undoes);
-    put_number(out, numbers.next);
+    put_longer_start(out, length, 5, numbers.txn, numbers.undoes, numbers.next);
     put_few(out, head);
     put_bytes(out, key);
     put_bytes(out, rest);

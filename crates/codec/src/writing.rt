@@ -64,6 +64,45 @@ pub(crate) fn put_long_head(out: &mut Vec<u8>, kind: u8, n: u64, m: u64)
     put_number(out, m);
 }
 
+/// A frame's length, a kind and a number. They are copied at once, from an array.
+pub(crate) fn put_start(out: &mut Vec<u8>, length: usize, kind: u8, n: u64)
+    requires { HasRoom out.old (number length ++ (kind ∷ number n)) }
+    ensures { Puts out.old out.new (number length ++ (kind ∷ number n)) }
+{
+    let mut bytes = [0; 17];
+    BigEndian::write_u64(&mut bytes, length as u64);
+    bytes[8] = kind;
+    BigEndian::write_u64(&mut bytes[9..], n);
+    put_bytes(out, &bytes);
+}
+
+/// The same with two numbers.
+pub(crate) fn put_long_start(out: &mut Vec<u8>, length: usize, kind: u8, n: u64, m: u64)
+    requires { HasRoom out.old (number length ++ (kind ∷ number n ++ number m)) }
+    ensures { Puts out.old out.new (number length ++ (kind ∷ number n ++ number m)) }
+{
+    let mut bytes = [0; 25];
+    BigEndian::write_u64(&mut bytes, length as u64);
+    bytes[8] = kind;
+    BigEndian::write_u64(&mut bytes[9..], n);
+    BigEndian::write_u64(&mut bytes[17..], m);
+    put_bytes(out, &bytes);
+}
+
+/// The same with three numbers.
+pub(crate) fn put_longer_start(out: &mut Vec<u8>, length: usize, kind: u8, n: u64, m: u64, k: u64)
+    requires { HasRoom out.old (number length ++ (kind ∷ number n ++ (number m ++ number k))) }
+    ensures { Puts out.old out.new (number length ++ (kind ∷ number n ++ (number m ++ number k))) }
+{
+    let mut bytes = [0; 33];
+    BigEndian::write_u64(&mut bytes, length as u64);
+    bytes[8] = kind;
+    BigEndian::write_u64(&mut bytes[9..], n);
+    BigEndian::write_u64(&mut bytes[17..], m);
+    BigEndian::write_u64(&mut bytes[25..], k);
+    put_bytes(out, &bytes);
+}
+
 /// The text of a key or a value, behind its length.
 pub(crate) fn put_text(out: &mut Vec<u8>, bytes: &[u8])
     requires room { HasRoom out.old (text bytes.now) }

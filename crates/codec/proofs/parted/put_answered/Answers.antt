@@ -4,10 +4,10 @@ use Rattle.std.specs.Option.{option_copied}
 use Rattle.std.proofs.lemmas.Option.{none-some, same_Some}
 use Rattle.record_key.specs.declared.op.Answer.{Answer}
 use Rattle.codec.specs.declared.reply.Reply.TheVariants as says
-use Rattle.codec.specs.Fields.{number, optional, answer_bytes, IsAnswer}
+use Rattle.codec.specs.Fields.{optional, answer_bytes, IsAnswer}
 use Rattle.codec.specs.Replies.{reply_bytes}
 use Rattle.codec.proofs.Fields.{optional_length, answer_length}
-use Rattle.codec.proofs.LongHeads.{headed_length, headed_frame}
+use Rattle.codec.proofs.LongHeads.{headed_length, long_headed_frame}
 use Rattle.codec.proofs.parted.put_answered.Goals.{in-None, in-Some}
 use Rattle.codec.proofs.parted.put_answered.Goals as goal
 
@@ -34,14 +34,12 @@ returns-in-None-answer-clause-spelling c =
       | in-None w ↦ w.length-is
       | in-Some w ↦ absurd (none-some w.in-Some.answer (sym c.in-None-answer.is ∙ w.in-Some.is))
     ] in
-    headed_frame 18 a.session a.number c.match-answer.length (optional answer_bytes (option_copied a.answer)) a.out.now.items
-    c.put_number.new.out.items c.put_long_head.new.out.items c.put_byte.new.out.items
-    (len_is ∙ ap (λ (o : Option Answer). 17 + length (optional answer_bytes o)) (sym copied))
-    (c.put_number.ensures.items
-    ∙ ap (λ (b : List ℕ). b ++ number c.match-answer.length) c.in_ok-reserve.ensures.items)
-    c.put_long_head.ensures.items
+    long_headed_frame 18 c.match-answer.length (optional answer_bytes (option_copied a.answer)) a.out.now.items
+    _ c.put_long_start.new.out.items c.put_byte.new.out.items c.in_ok-reserve.ensures.items
     (c.put_byte.ensures.items
-    ∙ ap (λ (o : Option Answer). c.put_long_head.new.out.items ++ optional answer_bytes o) (sym copied))
+    ∙ ap (λ (o : Option Answer). c.put_long_start.new.out.items ++ optional answer_bytes o) (sym copied))
+    a.session a.number c.put_long_start.ensures.items
+    (len_is ∙ ap (λ (o : Option Answer). 17 + length (optional answer_bytes o)) (sym copied))
 
 pub returns-in-None-answer-clause-short : goal.returns-in-None-answer-clause-short
 returns-in-None-answer-clause-short c =
@@ -52,7 +50,7 @@ pub returns-in-Some-answer-clause-spelling : goal.returns-in-Some-answer-clause-
 unfolding reply_bytes
 returns-in-Some-answer-clause-spelling c =
     let a = c.args in
-    let headed = c.put_long_head.new.out.items in
+    let started = c.put_long_start.new.out.items in
     let answer = c.in-Some-answer.answer.now in
     let copied : option_copied a.answer ≡ Some answer = ap option_copied c.in-Some-answer.is in
     let len_is : c.match-answer.length ≡ 17 + length (optional answer_bytes (Some answer)) = elim c.match-answer.branch [
@@ -62,16 +60,14 @@ returns-in-Some-answer-clause-spelling c =
           let one : w.in-Some.answer.now ≡ answer = same_Some _ _ (sym same ∙ copied) in
           omega (arith, w.length-is, w.answer_len.ensures.len, ap (λ (o : Answer). length (answer_bytes o)) one)
     ] in
-    headed_frame 18 a.session a.number c.match-answer.length (optional answer_bytes (option_copied a.answer)) a.out.now.items
-    c.put_number.new.out.items headed c.put_answer.new.out.items
-    (len_is ∙ ap (λ (o : Option Answer). 17 + length (optional answer_bytes o)) (sym copied))
-    (c.put_number.ensures.items
-    ∙ ap (λ (b : List ℕ). b ++ number c.match-answer.length) c.in_ok-reserve.ensures.items)
-    c.put_long_head.ensures.items
+    long_headed_frame 18 c.match-answer.length (optional answer_bytes (option_copied a.answer)) a.out.now.items
+    _ started c.put_answer.new.out.items c.in_ok-reserve.ensures.items
     (c.put_answer.ensures.items
     ∙ ap (λ (b : List ℕ). b ++ answer_bytes answer) c.put_byte-in-Some-answer.ensures.items
-    ∙ append_assoc headed (1 ∷ []) (answer_bytes answer)
-    ∙ ap (λ (o : Option Answer). headed ++ optional answer_bytes o) (sym copied))
+    ∙ append_assoc started (1 ∷ []) (answer_bytes answer)
+    ∙ ap (λ (o : Option Answer). started ++ optional answer_bytes o) (sym copied))
+    a.session a.number c.put_long_start.ensures.items
+    (len_is ∙ ap (λ (o : Option Answer). 17 + length (optional answer_bytes o)) (sym copied))
 
 pub returns-in-Some-answer-clause-short : goal.returns-in-Some-answer-clause-short
 returns-in-Some-answer-clause-short c =
