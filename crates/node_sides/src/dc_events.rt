@@ -59,7 +59,7 @@ impl<D: CrashLog, P: CrashPages> DataComponent<D, P> {
     }
 
     #[inline(never)]
-    fn tend(&mut self, out: &mut Out)
+    pub fn tend(&mut self, out: &mut Out)
         ensures { DcCalls (dc_of self.old) Event.Tend out.new (dc_of self.new) }
     {
         let DataComponent::Up(dc) = self else {

@@ -171,6 +171,19 @@ impl<D: CrashLog, P: CrashPages> DcSide<D, P> {
         out
     }
 
+    /// A Tend event.
+    #[inline(always)]
+    pub fn tend(&mut self, out: &mut Out)
+        ensures calls { DcCalls self.old Event.Tend out.new self.new }
+        ensures kept { IsDc self.new.dc }
+    {
+        let Some(component) = &mut self.component else {
+            unreachable!();
+        };
+        component.tend(out);
+        component.kept();
+    }
+
     /// A Request event that finds this one.
     pub fn serve(
         &mut self,

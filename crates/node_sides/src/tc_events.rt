@@ -112,7 +112,7 @@ impl<D: CrashLog> TransactionComponent<D> {
     }
 
     #[inline(never)]
-    fn act(&mut self, txn: u64, op: &Op, out: &mut Out)
+    pub fn act(&mut self, txn: u64, op: &Op, out: &mut Out)
         ensures { TcCalls (tc_of self.old) (Event.Act txn op.now) out.new (tc_of self.new) }
     {
         let TransactionComponent::Up(tc) = self else {
@@ -123,7 +123,7 @@ impl<D: CrashLog> TransactionComponent<D> {
     }
 
     #[inline(never)]
-    fn get(&mut self, txn: u64, key: &Key, out: &mut Out)
+    pub fn get(&mut self, txn: u64, key: &Key, out: &mut Out)
         ensures { TcCalls (tc_of self.old) (Event.Get txn key.now) out.new (tc_of self.new) }
     {
         let TransactionComponent::Up(tc) = self else {
@@ -191,7 +191,7 @@ impl<D: CrashLog> TransactionComponent<D> {
     }
 
     #[inline(never)]
-    fn undo(&mut self, txn: u64, out: &mut Out)
+    pub fn undo(&mut self, txn: u64, out: &mut Out)
         ensures { TcCalls (tc_of self.old) (Event.Undo txn) out.new (tc_of self.new) }
     {
         let TransactionComponent::Up(tc) = self else {
@@ -207,7 +207,7 @@ impl<D: CrashLog> TransactionComponent<D> {
     }
 
     #[inline(never)]
-    fn force(&mut self, out: &mut Out)
+    pub fn force(&mut self, out: &mut Out)
         ensures { TcCalls (tc_of self.old) Event.Force out.new (tc_of self.new) }
     {
         let TransactionComponent::Up(tc) = self else {

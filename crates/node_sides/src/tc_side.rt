@@ -16,7 +16,7 @@ use crate::put::put;
 use crate::transaction_component::TransactionComponent;
 use codec::{Reply, Request};
 use node_laws::{Event, Out};
-use record_key::{Answer, Refusal, Value};
+use record_key::{Answer, Key, Op, Refusal, Value};
 use stable::{CrashLog, MemLog};
 use std::alloc::Global;
 use std::marker::Model;
@@ -167,6 +167,58 @@ impl<D: CrashLog> TcSide<D> {
         component.kept();
         put(&mut self.component, component);
         out
+    }
+
+    /// An Act event. This and the next three come for each operation, so whoever has one needn't ask again which it is.
+    #[inline(always)]
+    pub fn act(&mut self, txn: u64, op: &Op, out: &mut Out)
+        ensures calls { TcCalls self.old (Event.Act txn op.now) out.new self.new }
+        ensures kept { IsTc self.new.tc }
+    {
+        let Some(component) = &mut self.component else {
+            unreachable!();
+        };
+        component.act(txn, op, out);
+        component.kept();
+    }
+
+    /// A Get event.
+    #[inline(always)]
+    pub fn get(&mut self, txn: u64, key: &Key, out: &mut Out)
+        ensures calls { TcCalls self.old (Event.Get txn key.now) out.new self.new }
+        ensures kept { IsTc self.new.tc }
+    {
+        let Some(component) = &mut self.component else {
+            unreachable!();
+        };
+        component.get(txn, key, out);
+        component.kept();
+    }
+
+    /// An Undo event.
+    #[inline(always)]
+    pub fn undo(&mut self, txn: u64, out: &mut Out)
+        ensures calls { TcCalls self.old (Event.Undo txn) out.new self.new }
+        ensures kept { IsTc self.new.tc }
+    {
+        let Some(component) = &mut self.component else {
+            unreachable!();
+        };
+        component.undo(txn, out);
+        component.kept();
+    }
+
+    /// A Force event.
+    #[inline(always)]
+    pub fn force(&mut self, out: &mut Out)
+        ensures calls { TcCalls self.old Event.Force out.new self.new }
+        ensures kept { IsTc self.new.tc }
+    {
+        let Some(component) = &mut self.component else {
+            unreachable!();
+        };
+        component.force(out);
+        component.kept();
     }
 
     /// A Reply event that finds this one.

@@ -74,6 +74,11 @@ impl<D: CrashLog, P: CrashPages> Node<D, P> {
             Event::Request { number } => self.serve(*number, out),
             Event::Send { txn } => self.send(*txn, event, out),
             Event::Recover => self.recover(event, out),
+            Event::Act { txn, op } => self.tc.act(*txn, op, out),
+            Event::Get { txn, key } => self.tc.get(*txn, key, out),
+            Event::Undo { txn } => self.tc.undo(*txn, out),
+            Event::Force => self.tc.force(out),
+            Event::Tend => self.dc.tend(out),
             _ if event.is_of_tc() => self.call(event, out),
             _ => self.dc.call(event, out),
         }
