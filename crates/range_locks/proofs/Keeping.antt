@@ -1,5 +1,5 @@
 -- While one transaction alone has locks, the index may lack.
-use Rattle.std.proofs.Common.{◌≡◌, ◌≢◌, ℕ, ◌<◌, ◌^◌, length, List, [], ◌∷◌, Option, Some, None, Result, Ok, Err, OnOk, OnErr, refl, sym, ap, ◌∙◌, subst, reverse, arith, true≢false}
+use Rattle.std.proofs.Common.{◌≡◌, ◌≢◌, ℕ, ◌<◌, ◌^◌, false, length, List, [], ◌∷◌, Option, Some, None, Result, Ok, Err, OnOk, OnErr, refl, sym, ap, ◌∙◌, subst, reverse, arith, true≢false}
 use Rattle.std.specs.Prelude.{IfNone, is_some}
 use Rattle.std.specs.BTreeSet.{BTreeSet}
 use Rattle.std.proofs.lemmas.List.{length-map, length-reverse}
@@ -42,6 +42,15 @@ pub pushed_alone : (old new : Held) (index : Option (BTreeSet Entry)) (t : ℕ) 
 pushed_alone old new None t locks (Ok x) none small kept alone lists same = taken_alone old new t locks small alone lists
 pushed_alone old new None t locks (Err e) none small kept alone lists same = same_alone old new same kept
 pushed_alone old new (Some s) t locks r none small kept alone lists same = absurd (true≢false (ap is_some none))
+
+-- the same where nobody else has a lock at all
+pub pushed_first : (old new : Held) (index : Option (BTreeSet Entry)) (t : ℕ) (locks : List Lock)
+    (r : Result (Unit {0}) Refusal) → is_some index ≡ false → t < 2 ^ 64 → IsKept old index
+    → ((u : ℕ) → u ≢ t → spans_of (seen old) u ≡ []) → OnOk r (Lists old t locks new)
+    → OnErr r ((u : ℕ) → locks_in new u ≡ locks_in old u) → IsKept new index
+pushed_first old new None t locks r none small kept alone lists same =
+    pushed_alone old new None t locks r refl small kept alone lists same
+pushed_first old new (Some s) t locks r none small kept alone lists same = absurd (true≢false none)
 
 -- nobody conflicts where the table was the same
 pub free_before : (old new : Held) (t : ℕ) (s : Span) (least : Option ℕ) (r : Result (Unit {0}) Refusal) → new ≡ old

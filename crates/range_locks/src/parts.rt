@@ -80,6 +80,25 @@ impl Parts {
         self.add(txn, lock)
     }
 
+    /// The same for one key. Without an index, where nobody else has a lock, it is added at once.
+    #[tactic(auto, using(crate::proofs::KeyEnds::key_range))]
+    pub fn take_key(&mut self, txn: u64, mode: Mode, key: &Key) -> Result<(), Refusal>
+        requires { IsKept self.old.held self.old.index }
+        ensures kept { IsKept self.new.held self.new.index }
+        ensures range { OnOk result (HasKeys (range_of (Span.Key key.now))) }
+        ensures free { OnOk result (IsFree (seen self.old.held) txn (meant mode (Span.Key key.now))) }
+        ensures taken { OnOk result
+            (seen self.new.held ≡ set_spans txn (meant mode (Span.Key key.now) ∷ spans_of (seen self.old.held) txn)
+            (seen self.old.held)) }
+        ensures refused { IfErr result (Refuses (seen self.old.held) txn (meant mode (Span.Key key.now))) }
+        ensures unchanged { OnErr result (seen self.new.held ≡ seen self.old.held) }
+    {
+        if self.index.is_none() && self.held.is_alone(txn) {
+            return self.held.push(self.alloc, txn, Lock::of_key(key, mode));
+        }
+        self.take(txn, mode, &Span::Key(key.copied()))
+    }
+
     /// Of the other transactions that hold a conflicting lock, the least one. By the index it looks at the ranges that
     /// begin below the span's upper end, and at the keys in the span.
     pub fn least_holder(&self, txn: u64, lock: &Lock) -> Option<u64>

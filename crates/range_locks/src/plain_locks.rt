@@ -62,6 +62,18 @@ impl PlainLocks {
         self.held.push(self.alloc, txn, lock)
     }
 
+    /// Takes one key for the transaction, as `take` takes its span.
+    pub fn take_key(&mut self, txn: u64, mode: Mode, key: &Key) -> Result<(), Refusal>
+        ensures range { OnOk result (HasKeys (range_of (Span.Key key.now))) }
+        ensures free { OnOk result (IsFree self.old txn (meant mode (Span.Key key.now))) }
+        ensures taken { OnOk result
+            (self.new ≡ set_spans txn (meant mode (Span.Key key.now) ∷ spans_of self.old txn) self.old) }
+        ensures refused { IfErr result (Refuses self.old txn (meant mode (Span.Key key.now))) }
+        ensures unchanged { OnErr result (self.new ≡ self.old) }
+    {
+        self.take(txn, mode, &Span::Key(key.copied()))
+    }
+
     /// Holds just these keys from now on, each for what is listed with it, in the order in which they are listed, a
     /// key twice where it is listed twice. Whether two transactions' keys conflict isn't asked. Refused NoMemory;
     /// unchanged then.

@@ -8,7 +8,6 @@ pub mod Adding
 pub mod Changing
 pub mod Oldest
 pub mod Committing
-pub mod LockCauses
 pub mod HeldSpans
 pub mod LocksHeld
 pub mod LettingGo

@@ -34,6 +34,7 @@ pub enum Change {
 }
 
 /// The change is made.
+#[inline(always)]
 pub fn make_change(open_txn: &mut OpenTxn, what: Change)
     ensures { open_txn.new ≡ changed what open_txn.old }
 {

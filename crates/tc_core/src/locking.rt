@@ -6,7 +6,7 @@ ghost use Rattle.range_locks.specs.Meant.{meant, range_of};
 ghost use Rattle.tc_core.specs.Locking.{RefusesLock, held_mode, spent_of};
 
 use range_locks::{Mode, RangeLocks, Span};
-use record_key::{Op, Refusal};
+use record_key::{Key, Op, Refusal};
 
 /// Takes the span, which is a range, for the transaction. Refused Busy with the least other holder; where no
 /// number is left for the call NumbersSpent, else NoMemory.
@@ -26,6 +26,34 @@ pub fn take(
     ensures unchanged { OnErr result (locks.new ≡ locks.old) }
 {
     match locks.take(txn, mode, span) {
+        Err(Refusal::NoMemory) if spent => Err(Refusal::NumbersSpent),
+        Err(refusal) => Err(refusal),
+        Ok(()) if spent => {
+            locks.untake(txn);
+            Err(Refusal::NumbersSpent)
+        }
+        Ok(()) => Ok(()),
+    }
+}
+
+/// The same for one key.
+#[tactic(auto, using(range_locks::proofs::KeyEnds::key_range))]
+pub fn take_key(
+    locks: &mut RangeLocks,
+    spent: bool,
+    txn: u64,
+    mode: Mode,
+    key: &Key,
+) -> Result<(), Refusal>
+    requires { IsTable locks.old }
+    ensures free { OnOk result (IsFree locks.old txn (meant mode (Span.Key key.now))) }
+    ensures unspent { OnOk result (spent ≡ false) }
+    ensures taken { OnOk result
+        (locks.new ≡ set_spans txn (meant mode (Span.Key key.now) ∷ spans_of locks.old txn) locks.old) }
+    ensures refused { IfErr result (RefusesLock locks.old txn (meant mode (Span.Key key.now)) (spent_of spent)) }
+    ensures unchanged { OnErr result (locks.new ≡ locks.old) }
+{
+    match locks.take_key(txn, mode, key) {
         Err(Refusal::NoMemory) if spent => Err(Refusal::NumbersSpent),
         Err(refusal) => Err(refusal),
         Ok(()) if spent => {

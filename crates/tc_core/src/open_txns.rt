@@ -84,6 +84,7 @@ impl OpenTxns {
     }
 
     /// Something happens to the transaction of this number, if it is open. Takes no memory.
+    #[inline(always)]
     pub fn change(&mut self, txn: u64, what: Change)
         ensures { self.new ≡ happens txn what self.old }
     {

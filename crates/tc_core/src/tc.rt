@@ -161,7 +161,7 @@ impl<D: LogDevice> Tc<D> {
     pub fn get(&mut self, txn: u64, key: &Key) -> Result<u64, Refusal>
         ensures gives { ReadGives self.old txn (Span.Key key.now) result self.new }
     {
-        self.parts.read(txn, Span::Key(key.copied()))
+        self.parts.read_key(txn, key)
     }
 
     /// The same for the keys from `low` on and below `high`, or to the end. Refused BadRange first, where

@@ -24,8 +24,12 @@ impl Locks for RangeLocks {
         RangeLocks::new(alloc)
     }
 
+    // A key of a transaction with an odd number is taken as a key, of another one as a span.
     fn take(&mut self, txn: u64, mode: Mode, span: &Span) -> Result<(), Refusal> {
-        self.take(txn, mode, span)
+        match span {
+            Span::Key(key) if txn % 2 == 1 => self.take_key(txn, mode, key),
+            _ => self.take(txn, mode, span),
+        }
     }
 
     fn untake(&mut self, txn: u64) -> bool {
@@ -54,8 +58,12 @@ impl Locks for PlainLocks {
         PlainLocks::new(alloc)
     }
 
+    // The other way round.
     fn take(&mut self, txn: u64, mode: Mode, span: &Span) -> Result<(), Refusal> {
-        self.take(txn, mode, span)
+        match span {
+            Span::Key(key) if txn % 2 == 0 => self.take_key(txn, mode, key),
+            _ => self.take(txn, mode, span),
+        }
     }
 
     fn untake(&mut self, txn: u64) -> bool {

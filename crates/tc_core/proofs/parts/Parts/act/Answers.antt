@@ -1,4 +1,4 @@
-use Rattle.std.proofs.Common.{◌≡◌, ◌∷◌, subst, Some, inr, ◌∙◌, ap, Err}
+use Rattle.std.proofs.Common.{◌≡◌, ◌∷◌, subst, Some, inr, ap, Err}
 use Rattle.history.specs.declared.record.Record.TheVariants.{Op}
 use Rattle.history.specs.Spans.{Span, at_key, changed_span}
 use Rattle.range_locks.specs.Meant.{mode_of}
@@ -6,16 +6,12 @@ use Rattle.range_locks.specs.Locks.{spans_of, set_spans, IsFree}
 use Rattle.tc_core.specs.declared.change.Change.TheVariants.{Stepped}
 use Rattle.logical_log.specs.LogView.{is_spent}
 use Rattle.tc_core.specs.Seen.{seen}
-use Rattle.tc_core.proofs.LockCauses.{key_range}
 use Rattle.tc_core.proofs.KeepsTc.{fits_op, keeps_act}
 use Rattle.tc_core.proofs.Rebuilt.{taken_span}
 use Rattle.compensation.proofs.Numbers.{fits_numbers}
 use Rattle.tc_core.proofs.Refused.{keeps_refused, refuses, happened}
 use Rattle.tc_core.proofs.Untaken.{holds_some, untaken}
 use Rattle.tc_core.proofs.parts.Parts.act.Goals as goal
-
-pub take-requires-clause-range : goal.take-requires-clause-range
-take-requires-clause-range g c = key_range c.copied.result
 
 pub append_op-requires : goal.append_op-requires
 append_op-requires g c =
@@ -24,8 +20,8 @@ append_op-requires g c =
     let found = c.in_ok-prev.ensures.found in
     let P : Span → Type 0 = λ s. IsFree w.locks c.args.txn s in
     let free : IsFree w.locks o.txn (changed_span c.args.op.now) =
-    rw found.at.number (subst P (taken_span c.mode_for.result c.copied.result c.args.op.now c.mode_for.ensures
-    (c.copied.ensures ∙ c.key.ensures)) c.in_ok-take.ensures.free) in
+    rw found.at.number (subst P (taken_span c.mode_for.result c.key.result.now c.args.op.now c.mode_for.ensures
+    c.key.ensures) c.in_ok-take_key.ensures.free) in
     let fits = fits_op w o c.args.op.now c.requires found.at.is found.waiting free in
     rw (← found.at.number)
     (record { fits = fits; numbers = fits_numbers w.log (Op o.txn o.last c.args.op.now) c.requires.few.records fits })
@@ -39,12 +35,12 @@ returns-in-Ok-clause-kept g c =
     let found = c.in_ok-prev.ensures.found in
     let appended = c.in-Ok.ensures.appended in
     let P : Span → Type 0 = λ s. IsFree w.locks t s in
-    let Q : Span → Type 0 = λ s. c.take.new.locks ≡ set_spans t (s ∷ spans_of w.locks t) w.locks in
-    let key = taken_span c.mode_for.result c.copied.result op c.mode_for.ensures (c.copied.ensures ∙ c.key.ensures) in
+    let Q : Span → Type 0 = λ s. c.take_key.new.locks ≡ set_spans t (s ∷ spans_of w.locks t) w.locks in
+    let key = taken_span c.mode_for.result c.key.result.now op c.mode_for.ensures c.key.ensures in
     let free : IsFree w.locks o.txn (changed_span op) =
-    rw found.at.number (subst P key c.in_ok-take.ensures.free) in
-    let taken : c.take.new.locks ≡ set_spans t (changed_span op ∷ spans_of w.locks t) w.locks =
-    subst Q key c.in_ok-take.ensures.taken in
+    rw found.at.number (subst P key c.in_ok-take_key.ensures.free) in
+    let taken : c.take_key.new.locks ≡ set_spans t (changed_span op ∷ spans_of w.locks t) w.locks =
+    subst Q key c.in_ok-take_key.ensures.taken in
     rw (
       happened w t o (Stepped c.in-Ok.number c.in-Ok.number (Some c.in-Ok.number)) c.change.new.self found.at
           c.change.ensures,
@@ -57,13 +53,13 @@ returns-in-Ok-clause-kept g c =
 
 pub untake-requires : goal.untake-requires
 untake-requires g c =
-    holds_some c.args.self.now.locks c.take.new.locks c.args.txn (at_key (mode_of c.mode_for.result) c.copied.result)
-    c.requires.locks.table c.in_ok-take.ensures.taken
+    holds_some c.args.self.now.locks c.take_key.new.locks c.args.txn (at_key (mode_of c.mode_for.result) c.key.result.now)
+    c.requires.locks.table c.in_ok-take_key.ensures.taken
 
 left : (g : _) (c : goal.After-untake g) → c.untake.new.self ≡ c.args.self.now.locks
 left g c =
-    untaken c.args.self.now.locks c.take.new.locks c.args.txn (at_key (mode_of c.mode_for.result) c.copied.result)
-    c.requires.locks.table c.in_ok-take.ensures.taken
+    untaken c.args.self.now.locks c.take_key.new.locks c.args.txn (at_key (mode_of c.mode_for.result) c.key.result.now)
+    c.requires.locks.table c.in_ok-take_key.ensures.taken
     c.untake.new.self c.untake.ensures
 
 pub returns-in-Err-clause-kept : goal.returns-in-Err-clause-kept
@@ -75,8 +71,8 @@ pub returns-in-Err-clause-gives : goal.returns-in-Err-clause-gives
 returns-in-Err-clause-gives g c =
     let w = seen c.args.self.now in
     let P : Span → Type 0 = λ s. IsFree w.locks c.args.txn s in
-    let free = subst P (taken_span c.mode_for.result c.copied.result c.args.op.now c.mode_for.ensures
-    (c.copied.ensures ∙ c.key.ensures)) c.in_ok-take.ensures.free in
+    let free = subst P (taken_span c.mode_for.result c.key.result.now c.args.op.now c.mode_for.ensures
+    c.key.ensures) c.in_ok-take_key.ensures.free in
     rw (c.in_ok-prev.ensures.found.allowed, left g c)
     (inr (
       free,
