@@ -7,8 +7,8 @@ use Rattle.record_key.specs.Table.{Bytes}
 use Rattle.record_key.specs.declared.op.Answer.{Answer}
 use Rattle.record_key.specs.declared.entry.Entry.{Entry}
 use Rattle.record_key.specs.Entries.{RiseAbove}
-use Rattle.ab_lsn.specs.AbLsn.{AbLsnView, stands_in, captures, noted, raised, placed, above}
-use Rattle.ab_lsn.specs.Parting.{entries_with, stands_with, placed_above, placed_all, joined}
+use Rattle.ab_lsn.specs.AbLsn.{AbLsnView, stands_in, captures, noted, raised, with_entry, above}
+use Rattle.ab_lsn.specs.Parting.{entries_with, stands_with, placed_above, placed_all, joined_with}
 use Rattle.ab_lsn.proofs.Rising.{filtered_rises}
 
 or_swap : (a b c : Bool) → (a || (b || c)) ≡ (b || (a || c))
@@ -25,9 +25,9 @@ either_side true f e es fs m h =
 either_side false f e es fs m h = refl
 
 pub placed_stands : (f : Entry) (es : List Entry) (m : ℕ)
-    → stands_in (placed f es) m ≡ ((m == f.number) || stands_in es m)
+    → stands_in (with_entry f es) m ≡ ((m == f.number) || stands_in es m)
 placed_stands f [] m = refl
-placed_stands f (e ∷ es) m = either_side (nat_lt e.number f.number) f e es (placed f es) m (placed_stands f es m)
+placed_stands f (e ∷ es) m = either_side (nat_lt e.number f.number) f e es (with_entry f es) m (placed_stands f es m)
 
 pub noted_captures : (v : AbLsnView) (n : ℕ) (k : Bytes) (a : Answer) (m : ℕ)
     → captures (noted v n k a) m ≡ (captures v m || m == n)
@@ -82,7 +82,7 @@ raised_captures v l m =
 
 -- what stands there once an entry was put at its place, where its own number doesn't stand there yet
 put_stood : (m : ℕ) (f : Entry) (es : List Entry) (b : Bool) → stands_in es f.number ≡ b
-    → stands_in (cond (not b) (placed f es) es) m ≡ ((m == f.number) || stands_in es m)
+    → stands_in (cond (not b) (with_entry f es) es) m ≡ ((m == f.number) || stands_in es m)
 put_stood m f es false out = placed_stands f es m
 put_stood m f es true there =
     elim (cases_Bool (m == f.number)) [
@@ -108,7 +108,7 @@ all_stood l m (f ∷ fs) es lt =
     ∙ or_swap (stands_in fs m) (m == f.number) (stands_in es m)
     ∙ sym (or_assoc (m == f.number) (stands_in fs m) (stands_in es m))
 
-pub joined_captures : (v w : AbLsnView) (m : ℕ) → captures (joined v w) m ≡ (captures v m || captures w m)
+pub joined_captures : (v w : AbLsnView) (m : ℕ) → captures (joined_with v w) m ≡ (captures v m || captures w m)
 joined_captures v w m =
     let u : AbLsnView = raised v w.low in
     let was : captures u m ≡ (captures v m || nat_le m w.low) = raised_captures v w.low m in

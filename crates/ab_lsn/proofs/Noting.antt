@@ -6,7 +6,7 @@ use Rattle.std.specs.List.{insert}
 use Rattle.std.proofs.lemmas.Bool.{cases_lt, le-leb, lt-leb, le-ltb, or_parts}
 use Rattle.record_key.specs.declared.entry.Entry.{Entry}
 use Rattle.record_key.specs.Entries.{RiseAbove, HasNumberAt, IsGapForNumber, IsPlaceOfNumber}
-use Rattle.ab_lsn.specs.AbLsn.{AbLsnView, stands_in, captures, placed}
+use Rattle.ab_lsn.specs.AbLsn.{AbLsnView, stands_in, captures, with_entry}
 use Rattle.ab_lsn.specs.Parting.{placed_above}
 use Rattle.ab_lsn.proofs.Rising.{at_stands, gap_stands, gap_placed, placed_rises}
 
@@ -36,7 +36,7 @@ noted_rises v f p h out gap =
 -- entries of another that are put at their places, one after another
 pub put_rises : (low : ℕ) (f : Entry) (es : List Entry) (b : Bool) → low < f.number → RiseAbove low es
     → stands_in es f.number ≡ b
-    → RiseAbove low (cond (not b) (placed f es) es)
+    → RiseAbove low (cond (not b) (with_entry f es) es)
 put_rises low f es false less h out = placed_rises f low es less h out
 put_rises low f es true less h there = h
 

@@ -7,7 +7,7 @@ use Rattle.std.proofs.lemmas.Bool.{cases_lt, le-ltb, or_parts}
 use Rattle.std.proofs.lemmas.Bool.Decides.{nat_tests}
 use Rattle.record_key.specs.declared.entry.Entry.{Entry}
 use Rattle.record_key.specs.Entries.{RiseAbove, HasNumberAt, IsGapForNumber}
-use Rattle.ab_lsn.specs.AbLsn.{stands_in, saved_in, placed}
+use Rattle.ab_lsn.specs.AbLsn.{stands_in, saved_in, with_entry}
 
 -- how two numbers compare
 tie : (m n : ℕ) → nat_cmp m n ≡ Equal → m ≡ n
@@ -76,7 +76,7 @@ unsaved n (e ∷ es) h =
     rw (ne_eqb e.number n apart) (unsaved n es no.1)
 
 -- an entry goes into its gap
-pub gap_placed : (f : Entry) (es : List Entry) (p : ℕ) → IsGapForNumber f.number es p → placed f es ≡ insert es p f
+pub gap_placed : (f : Entry) (es : List Entry) (p : ℕ) → IsGapForNumber f.number es p → with_entry f es ≡ insert es p f
 gap_placed f [] zero gap = refl
 gap_placed f [] (suc p) gap = absurd (omega (arith, gap))
 gap_placed f (e ∷ es) zero gap =
@@ -87,7 +87,7 @@ gap_placed f (e ∷ es) (suc p) gap =
 
 -- and the numbers rise still
 pub placed_rises : (f : Entry) (l : ℕ) (es : List Entry) → l < f.number → RiseAbove l es → stands_in es f.number ≡ false
-    → RiseAbove l (placed f es)
+    → RiseAbove l (with_entry f es)
 placed_rises f l [] lt h out = (lt, tt)
 placed_rises f l (e ∷ es) lt h out =
     let no = or_parts (f.number == e.number) (stands_in es f.number) out in

@@ -27,17 +27,17 @@ saved_in [] n = None
 saved_in (e ∷ es) n = if e.number == n then Some e.answer else saved_in es n
 
 -- the entries with one more at its place
-abbrev pub placed : Entry → List Entry → List Entry
-placed e [] = e ∷ []
-placed e (f ∷ fs) = if nat_lt f.number e.number then f ∷ placed e fs else e ∷ f ∷ fs
+abbrev pub with_entry : Entry → List Entry → List Entry
+with_entry e [] = e ∷ []
+with_entry e (f ∷ fs) = if nat_lt f.number e.number then f ∷ with_entry e fs else e ∷ f ∷ fs
 
 -- nothing is captured
-abbrev pub blank : AbLsnView
-blank = record { low = 0; entries = [] }
+abbrev pub none_captured : AbLsnView
+none_captured = record { low = 0; entries = [] }
 
 -- with one number more
 abbrev pub noted : AbLsnView → ℕ → Bytes → Answer → AbLsnView
-noted v n k a = record v { entries = placed (record { number = n; key = k; answer = a }) v.entries }
+noted v n k a = record v { entries = with_entry (record { number = n; key = k; answer = a }) v.entries }
 
 abbrev pub above : ℕ → List Entry → List Entry
 above low entries = filter (λ (e : Entry). nat_lt low e.number) entries

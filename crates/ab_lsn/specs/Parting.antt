@@ -4,7 +4,7 @@ use Rattle.std.specs.List.{list_any}
 use Rattle.record_key.specs.Table.{Bytes}
 use Rattle.record_key.specs.Order.{is_below}
 use Rattle.record_key.specs.declared.entry.Entry.{Entry}
-use Rattle.ab_lsn.specs.AbLsn.{AbLsnView, stands_in, placed, raised}
+use Rattle.ab_lsn.specs.AbLsn.{AbLsnView, stands_in, with_entry, raised}
 
 -- a key is at or above this one
 abbrev pub is_from : Bytes → Bytes → Bool
@@ -30,7 +30,7 @@ cut_from v k = record v { entries = entries_with (is_from k) v.entries }
 
 -- an entry put at its place, if it is above a number and its own number doesn't stand there yet
 abbrev pub placed_above : ℕ → Entry → List Entry → List Entry
-placed_above low e es = if nat_lt low e.number && not (stands_in es e.number) then placed e es else es
+placed_above low e es = if nat_lt low e.number && not (stands_in es e.number) then with_entry e es else es
 
 -- each of the first put so at its place among the second
 abbrev pub placed_all : ℕ → List Entry → List Entry → List Entry
@@ -42,5 +42,5 @@ placed_all low (f ∷ fs) es = placed_all low fs (placed_above low f es)
 abbrev pub with_entries : AbLsnView → List Entry → AbLsnView
 with_entries v fs = record v { entries = placed_all v.low fs v.entries }
 
-abbrev pub joined : AbLsnView → AbLsnView → AbLsnView
-joined v w = with_entries (raised v w.low) w.entries
+abbrev pub joined_with : AbLsnView → AbLsnView → AbLsnView
+joined_with v w = with_entries (raised v w.low) w.entries

@@ -1,8 +1,8 @@
 //! The abstract page LSN.
 ghost use Rattle.std.specs.Prelude.{◌≡◌, ℕ, ◌==◌, ◌||◌, ◌&&◌, false, nat_le, OnOk, OnErr, IfOk, IfErr};
 ghost use Rattle.record_key.specs.Entries.{RiseAbove};
-ghost use Rattle.ab_lsn.specs.AbLsn.{blank, stands_in, captures, saved_in, noted, raised, popped};
-ghost use Rattle.ab_lsn.specs.Parting.{is_under, is_from, stands_with, cut_under, cut_from, joined};
+ghost use Rattle.ab_lsn.specs.AbLsn.{none_captured, stands_in, captures, saved_in, noted, raised, popped};
+ghost use Rattle.ab_lsn.specs.Parting.{is_under, is_from, stands_with, cut_under, cut_from, joined_with};
 
 use crate::entries::{copied_from, keep_above, place_all};
 use record_key::{Answer, Entries, Key, Refusal};
@@ -30,7 +30,7 @@ impl Model for AbLsn {
 impl AbLsn {
     /// Captures nothing. Takes no memory; the allocator serves later entries.
     pub fn new(alloc: Global) -> AbLsn
-        ensures { result ≡ blank }
+        ensures { result ≡ none_captured }
     {
         AbLsn {
             low: 0,
@@ -168,7 +168,7 @@ impl AbLsn {
     /// both above it stay. Where a number stands in both, its own entry stays. Refused NoMemory, and unchanged
     /// then.
     pub fn join(&mut self, other: &AbLsn) -> Result<(), Refusal>
-        ensures joined { OnOk result (self.new ≡ joined self.old other.now) }
+        ensures joined { OnOk result (self.new ≡ joined_with self.old other.now) }
         ensures captured { OnOk result ((m : ℕ) →
             captures self.new m ≡ (captures self.old m || captures other.now m)) }
         ensures unchanged { OnErr result (self.new ≡ self.old) }

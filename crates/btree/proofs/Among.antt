@@ -11,7 +11,7 @@ use Rattle.page.specs.Parting.{lower_of, upper_of, joined_of}
 use Rattle.page.specs.Performs.{Performs}
 use Rattle.btree.specs.Finding.{IsPlaceOf}
 use Rattle.btree.specs.Leaves.{AreLeaves, leaf_at, place_at}
-use Rattle.btree.specs.Nodes.{NodeView, IsWhole, IsChangedAt}
+use Rattle.btree.specs.Nodes.{TreeNodeView, IsWhole, IsChangedAt}
 use Rattle.btree.specs.Parting.{middle, may_split_at, may_merge_at, split_at, merged_at}
 use Rattle.btree.specs.Performs.{PerformsAt}
 use Rattle.btree.proofs.PlaceOf.{place_found}
@@ -44,7 +44,7 @@ performs_at leaves n o done x there performs =
     subst P (map-id leaves) all there performs
 
 -- a request at the leaf of its key
-pub performs_among : (p : ℕ) (old new : NodeView) (n : ℕ) (o : Op) (result : Result Done Refusal) → AreLeaves old.leaves
+pub performs_among : (p : ℕ) (old new : TreeNodeView) (n : ℕ) (o : Op) (result : Result Done Refusal) → AreLeaves old.leaves
     → IsPlaceOf old.leaves (key_of o) p → IsChangedAt p old new
     → IfOk result (λ done. Performs (get_or old.leaves p first) n o done (get_or new.leaves p first))
     → IfOk result (λ done. PerformsAt old.leaves n o done new.leaves)
@@ -82,7 +82,7 @@ merge_among leaves p d x may is =
     sym (map-id (remove (set leaves p x) (suc p))) ∙ subst P (map-id leaves) all may is
 
 -- a node that has more than one leaf is none
-pub not_leaf : (node : NodeView) → IsWhole node → 1 < length node.leaves → 0 < node.height
+pub not_leaf : (node : TreeNodeView) → IsWhole node → 1 < length node.leaves → 0 < node.height
 not_leaf node whole more = pick node.height refl
   where
     pick : (h : ℕ) → node.height ≡ h → 0 < h
@@ -90,7 +90,7 @@ not_leaf node whole more = pick node.height refl
     pick (suc h) level = omega arith
 
 -- a refused one leaves the leaves as they were
-pub unchanged_among : (p : ℕ) (old new : NodeView) (result : Result Done Refusal) → IsChangedAt p old new
+pub unchanged_among : (p : ℕ) (old new : TreeNodeView) (result : Result Done Refusal) → IsChangedAt p old new
     → OnErr result (get_or new.leaves p first ≡ get_or old.leaves p first)
     → OnErr result (new.leaves ≡ old.leaves)
 unchanged_among p old new (Ok done) change same = tt

@@ -23,7 +23,7 @@ use Rattle.page.proofs.Sides.{captured_left, captured_both, honest_joined}
 use Rattle.btree.specs.Leaves.{AreLeaves, leaf_at, place_at, changed_at}
 use Rattle.btree.specs.Parting.{middle, may_split_at, split_at, merged_at}
 use Rattle.btree.specs.Performs.{performed_at}
-use Rattle.btree.specs.TreeLaw.{AreHonest, AreCapturedAt}
+use Rattle.btree.specs.TreeLaw.{AreHonestLeaves, AreCapturedAt}
 use Rattle.btree.proofs.Tiling.{within_from, there_from, same_from}
 use Rattle.page.proofs.Sides.{neighbours_apart}
 use Rattle.btree.proofs.Changing.{changed_same, changed_other, leaf_mapped}
@@ -159,7 +159,7 @@ module _ (leaves : List LeafView) (kept : AreLeaves leaves) (p id d : ℕ) (may 
       ]
 
   -- of the log's numbers on the key
-  pub captured_split : (log : List Record) → AreHonest log leaves → (n : ℕ) (o : Op) → Requests log n o → key_of o ≡ k
+  pub captured_split : (log : List Record) → AreHonestLeaves log leaves → (n : ℕ) (o : Op) → Requests log n o → key_of o ≡ k
       → captures (leaf_at (split_at p id d leaves) k).ab n ≡ captures (leaf_at leaves k).ab n
   captured_split log honest n o requests on =
       let leaf : LeafView = leaf_at leaves k in
@@ -217,7 +217,7 @@ record AreHonestBoth (log : List Record) (left right : LeafView) : Type 0 where
   pub honest : IsHonestLeaf log left × IsHonestLeaf log right
   pub captured : IsCapturedTo log left right.ab.low × IsCapturedTo log right left.ab.low
 
-honest_pair : (log : List Record) (leaves : List LeafView) (p : ℕ) → AreLeaves leaves → AreHonest log leaves
+honest_pair : (log : List Record) (leaves : List LeafView) (p : ℕ) → AreLeaves leaves → AreHonestLeaves log leaves
     → AreCapturedAt log leaves p
     → AtPair (AreHonestBoth log) leaves p
 honest_pair log leaves p kept honest captured =
@@ -231,7 +231,7 @@ honest_pair log leaves p kept honest captured =
     (λ left right pair both. record { pair = pair; honest = both.0; captured = both.1 }) leaves p
     (joinable leaves p kept) known
 
-pub honest_merged_at : (log : List Record) (leaves : List LeafView) (p d : ℕ) → AreLeaves leaves → AreHonest log leaves
+pub honest_merged_at : (log : List Record) (leaves : List LeafView) (p d : ℕ) → AreLeaves leaves → AreHonestLeaves log leaves
     → AreCapturedAt log leaves p
     → AtPair (λ left right. IsHonestLeaf log (joined_of left right d)) leaves p
 honest_merged_at log leaves p d kept honest captured =
@@ -263,7 +263,7 @@ captured_in_right log left right d k both held n o requests on =
     on)
 
 -- of the log's numbers on the key
-pub captured_merged : (log : List Record) (leaves : List LeafView) → AreLeaves leaves → AreHonest log leaves
+pub captured_merged : (log : List Record) (leaves : List LeafView) → AreLeaves leaves → AreHonestLeaves log leaves
     → (p d : ℕ) → AreCapturedAt log leaves p → (k : Bytes)
     → (n : ℕ) (o : Op) → Requests log n o → key_of o ≡ k
     → captures (leaf_at (merged_at p d leaves) k).ab n ≡ captures (leaf_at leaves k).ab n

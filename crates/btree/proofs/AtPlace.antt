@@ -4,12 +4,12 @@ use Rattle.std.specs.List.{insert, remove}
 use Rattle.std.proofs.lemmas.List.{get_or-append-add, get_or_append_left, set-append_left, set-append_right}
 use Rattle.std.proofs.lemmas.List.Edits.{insert-append_left, insert-append_right, remove-append_left, remove-append_right}
 use Rattle.page.specs.Leaf.{LeafView, first}
-use Rattle.btree.specs.Nodes.{NodeView, nothing, under}
+use Rattle.btree.specs.Nodes.{TreeNodeView, nothing, under}
 use Rattle.btree.specs.Finding.{IsIn}
 use Rattle.btree.proofs.Under.{under_parts}
 
 -- nodes of which one is another
-pub under_set : (ns : List NodeView) (i : ℕ) (n : NodeView) → i < length ns
+pub under_set : (ns : List TreeNodeView) (i : ℕ) (n : TreeNodeView) → i < length ns
     → under (set ns i n) ≡ under (take i ns) ++ (n.leaves ++ under (drop (suc i) ns))
 under_set [] i n within = absurd (omega (arith, within))
 under_set (m ∷ ns) zero n within = refl
@@ -17,7 +17,7 @@ under_set (m ∷ ns) (suc i) n within =
     ap (λ (more : List LeafView). m.leaves ++ more) (under_set ns i n (omega (arith, within)))
     ∙ sym (Rattle.std.proofs.Common.append_assoc m.leaves (under (take i ns)) (n.leaves ++ under (drop (suc i) ns)))
 
-module _ (ns : List NodeView) (place i rest : ℕ) (at : IsIn ns place i rest) where
+module _ (ns : List TreeNodeView) (place i rest : ℕ) (at : IsIn ns place i rest) where
   abbrev before : List LeafView
   before = under (take i ns)
 

@@ -5,7 +5,7 @@ use Rattle.std.proofs.lemmas.List.{length-set, get_or-set_same, get_or_default}
 use Rattle.record_key.specs.Table.{Bytes}
 use Rattle.page.specs.Leaf.{LeafView, first}
 use Rattle.btree.specs.Choosing.{summary_of}
-use Rattle.btree.specs.Nodes.{NodeView, nothing, under, height_in, over_nodes, low_of, IsWhole, IsChild, AreChildren, IsChangedAt}
+use Rattle.btree.specs.Nodes.{TreeNodeView, nothing, under, height_in, over_nodes, low_of, IsWhole, IsChild, AreChildren, IsChangedAt}
 use Rattle.btree.specs.Finding.{IsIn}
 use Rattle.btree.specs.declared.tree.node.Below.{Below}
 use Rattle.btree.specs.declared.tree.node.Below.TheVariants.{Inner}
@@ -21,7 +21,7 @@ low_set [] p x begins = refl
 low_set (leaf ∷ leaves) zero x begins = begins
 low_set (leaf ∷ leaves) (suc p) x begins = refl
 
-module _ (place : ℕ) (old new : NodeView) (change : IsChangedAt place old new) where
+module _ (place : ℕ) (old new : TreeNodeView) (change : IsChangedAt place old new) where
   pub same_count : length new.leaves ≡ length old.leaves
   same_count = ap length change.leaves ∙ length-set old.leaves place (get_or new.leaves place first)
 
@@ -47,13 +47,13 @@ pub record IsChanged (place : ℕ) (low : Option Bytes) (count : ℕ) (summary :
   pub changed : IsChangedAt place (seen old) (seen new)
   pub leaf : get_or (seen new).leaves place first ≡ x
 
-same_height : (ns : List NodeView) (i : ℕ) (n : NodeView) → n.height ≡ (get_or ns i nothing).height
+same_height : (ns : List TreeNodeView) (i : ℕ) (n : TreeNodeView) → n.height ≡ (get_or ns i nothing).height
     → height_in (set ns i n) ≡ height_in ns
 same_height [] i n same = refl
 same_height (m ∷ ns) zero n same = same
 same_height (m ∷ ns) (suc i) n same = refl
 
-module _ (place i rest : ℕ) (ns : List NodeView) (n : NodeView) (at : IsIn ns place i rest)
+module _ (place i rest : ℕ) (ns : List TreeNodeView) (n : TreeNodeView) (at : IsIn ns place i rest)
     (change : IsChangedAt rest (get_or ns i nothing) n) where
   abbrev x : LeafView
   x = get_or n.leaves rest first
@@ -83,7 +83,7 @@ module _ (place i rest : ℕ) (ns : List NodeView) (n : NodeView) (at : IsIn ns 
 -- ---- what a change leaves where there are nodes below
 
 pub inner_changed : (place i rest : ℕ) (low : Option Bytes) (count : ℕ) (summary again : Summary)
-    (xs ys : Vec NodeView Global) (child n : NodeView)
+    (xs ys : Vec TreeNodeView Global) (child n : TreeNodeView)
     → IsNode low count summary (Inner xs) → IsIn xs.items place i rest → child ≡ get_or xs.items i child
     → IsChangedAt rest child n → ys.items ≡ set xs.items i n
     → vec_capacity ys ≡ vec_capacity xs → again ≡ summary_of (under ys.items)
@@ -91,9 +91,9 @@ pub inner_changed : (place i rest : ℕ) (low : Option Bytes) (count : ℕ) (sum
 inner_changed place i rest low count summary again xs ys child n kept at of by items room summed =
     let there : child ≡ get_or xs.items i nothing = of ∙ get_or_default xs.items i child nothing at.there in
     let change : IsChangedAt rest (get_or xs.items i nothing) n =
-    subst (λ (m : NodeView). IsChangedAt rest m n) there by in
+    subst (λ (m : TreeNodeView). IsChangedAt rest m n) there by in
     let changed : IsChangedAt place (over_nodes xs.items) (over_nodes ys.items) =
-    subst (λ (ms : List NodeView). IsChangedAt place (over_nodes xs.items) (over_nodes ms)) (sym items)
+    subst (λ (ms : List TreeNodeView). IsChangedAt place (over_nodes xs.items) (over_nodes ms)) (sym items)
     (nodes_changed place i rest xs.items n at change) in
     let same : IsChild (height_in xs.items) n =
     still_child rest (get_or xs.items i nothing) n change (height_in xs.items)
@@ -106,7 +106,7 @@ inner_changed place i rest low count summary again xs ys child n kept at of by i
         fits = kept.fits;
         summed = summed;
         under_it = record {
-          children = subst (λ (ms : List NodeView). AreChildren (height_in ms) ms) (sym items)
+          children = subst (λ (ms : List TreeNodeView). AreChildren (height_in ms) ms) (sym items)
               (at_first (height_in xs.items) (set xs.items i n)
               (all_set (IsChild (height_in xs.items)) xs.items i n same kept.under_it.children));
           most = subst (λ (k : ℕ). k ≤ 8) (sym many) kept.under_it.most;
@@ -114,22 +114,22 @@ inner_changed place i rest low count summary again xs ys child n kept at of by i
         };
       };
       changed = changed;
-      leaf = ap (λ (ms : List NodeView). get_or (under ms) place first) items
+      leaf = ap (λ (ms : List TreeNodeView). get_or (under ms) place first) items
           ∙ leaf_under place i rest xs.items n at change;
     }
 
 -- ---- one level down
 
 -- the same leaf, at a place in a child
-pub record IsBelowAt (self : NodeView) (place : ℕ) (child : NodeView) (rest : ℕ) : Type 0 where
+pub record IsBelowAt (self : TreeNodeView) (place : ℕ) (child : TreeNodeView) (rest : ℕ) : Type 0 where
   pub lower : child.height < self.height
   pub whole : IsWhole child
   pub within : rest < length child.leaves
   pub fewer : length child.leaves ≤ length self.leaves
   pub leaf : get_or self.leaves place first ≡ get_or child.leaves rest first
 
-pub goes_down : (self child : NodeView) (place i rest : ℕ) (low : Option Bytes) (count : ℕ) (summary : Summary)
-    (xs : Vec NodeView Global)
+pub goes_down : (self child : TreeNodeView) (place i rest : ℕ) (low : Option Bytes) (count : ℕ) (summary : Summary)
+    (xs : Vec TreeNodeView Global)
     → seen (Inner xs) ≡ self
     → IsNode low count summary (Inner xs) → IsIn xs.items place i rest → child ≡ get_or xs.items i child
     → IsBelowAt self place child rest
@@ -139,17 +139,17 @@ goes_down self child place i rest low count summary xs is kept at of =
     subst (IsChild (height_in xs.items)) there
     (all_get (IsChild (height_in xs.items)) xs.items i nothing at.there kept.under_it.children) in
     record {
-      lower = omega (arith, one.level, ap (λ (n : NodeView). n.height) is);
+      lower = omega (arith, one.level, ap (λ (n : TreeNodeView). n.height) is);
       whole = one.whole;
-      within = subst (λ (n : NodeView). rest < length n.leaves) there at.within;
+      within = subst (λ (n : TreeNodeView). rest < length n.leaves) there at.within;
       fewer = omega (
         arith,
         count_parts xs.items i nothing at.there,
-        ap (λ (n : NodeView). length n.leaves) there,
-        ap (λ (n : NodeView). length n.leaves) is,
+        ap (λ (n : TreeNodeView). length n.leaves) there,
+        ap (λ (n : TreeNodeView). length n.leaves) is,
       );
       leaf =
-          ap (λ (n : NodeView). get_or n.leaves place first) (sym is)
+          ap (λ (n : TreeNodeView). get_or n.leaves place first) (sym is)
           ∙ leaf_in xs.items place i rest at
-          ∙ ap (λ (n : NodeView). get_or n.leaves rest first) there;
+          ∙ ap (λ (n : TreeNodeView). get_or n.leaves rest first) there;
     }

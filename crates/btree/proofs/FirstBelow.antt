@@ -7,14 +7,14 @@ use Rattle.std.proofs.lemmas.List.{drop_all, get_or_default}
 use Rattle.page.specs.Leaf.{LeafView}
 use Rattle.btree.specs.Choosing.{first_large, first_pair, is_reached, pair_top, extent_first, extent_last, summary_of, both_of}
 use Rattle.btree.specs.declared.tree.summary.Extent.{Extent}
-use Rattle.btree.specs.Nodes.{NodeView, nothing, under, AreChildren}
+use Rattle.btree.specs.Nodes.{TreeNodeView, nothing, under, AreChildren}
 use Rattle.btree.specs.Finding.{IsLargeIn, IsPairIn}
 use Rattle.btree.proofs.Summed.{summary_append, large_inside, large_past, pair_inside, pair_across, pair_past}
 use Rattle.btree.proofs.Under.{under_more}
 use Rattle.btree.proofs.Whole.{all_get, all_take, all_drop, some_under}
 
 -- what is kept of nodes, one node more
-pub summary_more : (height : ℕ) (ns : List NodeView) (i : ℕ) → 0 < i → i < length ns → AreChildren height ns
+pub summary_more : (height : ℕ) (ns : List TreeNodeView) (i : ℕ) → 0 < i → i < length ns → AreChildren height ns
     → summary_of (under (take (suc i) ns)) ≡ both_of (summary_of (under (take i ns)))
     (summary_of (get_or ns i nothing).leaves)
 summary_more height ns i some within are =
@@ -23,7 +23,7 @@ summary_more height ns i some within are =
     (some_under height (take i ns) (length_some i ns some within) (all_take _ i ns are))
     (all_get _ ns i nothing within are).whole.some
   where
-    length_some : (i : ℕ) (ns : List NodeView) → 0 < i → i < length ns → 0 < length (take i ns)
+    length_some : (i : ℕ) (ns : List TreeNodeView) → 0 < i → i < length ns → 0 < length (take i ns)
     length_some i [] some within = absurd (omega (arith, within))
     length_some zero (n ∷ ns) some within = absurd (omega (arith, some))
     length_some (suc i) (n ∷ ns) some within = omega arith
@@ -34,7 +34,7 @@ begins [] ys some = absurd (omega (arith, some))
 begins (x ∷ xs) ys some = refl
 
 -- a node that was read stands there
-pub stands : (ns : List NodeView) (i : ℕ) (n : NodeView) → i < length ns → n ≡ get_or ns i n → n ≡ get_or ns i nothing
+pub stands : (ns : List TreeNodeView) (i : ℕ) (n : TreeNodeView) → i < length ns → n ≡ get_or ns i n → n ≡ get_or ns i nothing
 stands ns i n within is = is ∙ get_or_default ns i n nothing within
 
 -- none below the nodes that are past
@@ -42,15 +42,15 @@ no_more : (o : Option ℕ) (f : ℕ → ℕ) → is_some o ≡ true → o ≡ op
 no_more o f some none = true≢false (sym some ∙ ap is_some none)
 
 -- the first ones below the nodes from the i-th on, with so many leaves before these, are the first of all
-abbrev pub LargeFrom : ℕ → List NodeView → ℕ → ℕ → Type 0
+abbrev pub LargeFrom : ℕ → List TreeNodeView → ℕ → ℕ → Type 0
 LargeFrom known ns i before =
     first_large known (under ns) ≡ option_map (λ q. before + q) (first_large known (under (drop i ns)))
 
-abbrev pub PairFrom : ℕ → List NodeView → ℕ → ℕ → Type 0
+abbrev pub PairFrom : ℕ → List TreeNodeView → ℕ → ℕ → Type 0
 PairFrom known ns i before =
     first_pair known (under ns) ≡ option_map (λ q. before + q) (first_pair known (under (drop i ns)))
 
-module _ (known : ℕ) (ns : List NodeView) (i before : ℕ) (within : i < length ns) where
+module _ (known : ℕ) (ns : List TreeNodeView) (i before : ℕ) (within : i < length ns) where
   abbrev here : List LeafView
   here = (get_or ns i nothing).leaves
 
@@ -100,7 +100,7 @@ module _ (known : ℕ) (ns : List NodeView) (i before : ℕ) (within : i < lengt
     some_rest : suc i < length ns → 0 < length rest
     some_rest less = some_under height (drop (suc i) ns) (left ns i less) (all_drop _ (suc i) ns are)
       where
-        left : (ns : List NodeView) (i : ℕ) → suc i < length ns → 0 < length (drop (suc i) ns)
+        left : (ns : List TreeNodeView) (i : ℕ) → suc i < length ns → 0 < length (drop (suc i) ns)
         left [] i less = absurd (omega (arith, less))
         left (n ∷ []) i less = absurd (omega (arith, less))
         left (n ∷ m ∷ ns) zero less = omega arith
@@ -125,7 +125,7 @@ module _ (known : ℕ) (ns : List NodeView) (i before : ℕ) (within : i < lengt
 
     pub first_rest : suc i < length ns → extent_first rest ≡ extent_first (get_or ns (suc i) nothing).leaves
     first_rest less =
-        ap (λ (ms : List NodeView). extent_first (under ms)) (drop-cons ns (suc i) nothing less)
+        ap (λ (ms : List TreeNodeView). extent_first (under ms)) (drop-cons ns (suc i) nothing less)
         ∙ begins (get_or ns (suc i) nothing).leaves (under (drop (suc (suc i)) ns))
         (all_get _ ns (suc i) nothing less are).whole.some
 

@@ -3,13 +3,13 @@ use Rattle.std.proofs.Common.{◌≡◌, ℕ, zero, suc, ◌+◌, ◌<◌, ◌�
 use Rattle.std.specs.List.{insert}
 use Rattle.std.proofs.lemmas.List.Edits.{length-insert}
 use Rattle.page.specs.Leaf.{LeafView}
-use Rattle.btree.specs.Nodes.{NodeView, nothing, under}
+use Rattle.btree.specs.Nodes.{TreeNodeView, nothing, under}
 use Rattle.btree.specs.Finding.{IsIn}
 use Rattle.btree.proofs.AtPlace.{under_set, inserted_in, place_there}
 use Rattle.btree.proofs.Under.{count_inserted}
 
 -- one node in two
-under_two : (ns : List NodeView) (i : ℕ) (n m : NodeView) → i < length ns
+under_two : (ns : List TreeNodeView) (i : ℕ) (n m : TreeNodeView) → i < length ns
     → under (insert (set ns i n) (suc i) m) ≡ under (take i ns) ++ ((n.leaves ++ m.leaves) ++ under (drop (suc i) ns))
 under_two [] i n m within = absurd (omega (arith, within))
 under_two (k ∷ ns) zero n m within = sym (append_assoc n.leaves m.leaves (under ns))
@@ -17,8 +17,8 @@ under_two (k ∷ ns) (suc i) n m within =
     ap (λ (more : List LeafView). k.leaves ++ more) (under_two ns i n m (omega (arith, within)))
     ∙ sym (append_assoc k.leaves (under (take i ns)) ((n.leaves ++ m.leaves) ++ under (drop (suc i) ns)))
 
-module _ (ns : List NodeView) (place i rest : ℕ) (at : IsIn ns place i rest) (x : LeafView) where
-  pub inserted_one : (n : NodeView) → n.leaves ++ [] ≡ insert (get_or ns i nothing).leaves (suc rest) x
+module _ (ns : List TreeNodeView) (place i rest : ℕ) (at : IsIn ns place i rest) (x : LeafView) where
+  pub inserted_one : (n : TreeNodeView) → n.leaves ++ [] ≡ insert (get_or ns i nothing).leaves (suc rest) x
       → under (set ns i n) ++ [] ≡ insert (under ns) (suc place) x
   inserted_one n is =
       append-nil (under (set ns i n))
@@ -27,7 +27,7 @@ module _ (ns : List NodeView) (place i rest : ℕ) (at : IsIn ns place i rest) (
       (sym (append-nil n.leaves) ∙ is)
       ∙ sym (inserted_in ns place i rest at x)
 
-  pub inserted_two : (n m : NodeView) → n.leaves ++ (m.leaves ++ []) ≡ insert (get_or ns i nothing).leaves (suc rest) x
+  pub inserted_two : (n m : TreeNodeView) → n.leaves ++ (m.leaves ++ []) ≡ insert (get_or ns i nothing).leaves (suc rest) x
       → under (insert (set ns i n) (suc i) m) ≡ insert (under ns) (suc place) x
   inserted_two n m is =
       under_two ns i n m at.there
@@ -35,7 +35,7 @@ module _ (ns : List NodeView) (place i rest : ℕ) (at : IsIn ns place i rest) (
       (ap (λ (leaves : List LeafView). n.leaves ++ leaves) (sym (append-nil m.leaves)) ∙ is)
       ∙ sym (inserted_in ns place i rest at x)
 
-  pub count_two : (n m : NodeView) → n.leaves ++ (m.leaves ++ []) ≡ insert (get_or ns i nothing).leaves (suc rest) x
+  pub count_two : (n m : TreeNodeView) → n.leaves ++ (m.leaves ++ []) ≡ insert (get_or ns i nothing).leaves (suc rest) x
       → length (under (set ns i n)) + length m.leaves ≡ length (under ns) + 1
   count_two n m is =
       sym (count_inserted (set ns i n) (suc i) m)
@@ -43,7 +43,7 @@ module _ (ns : List NodeView) (place i rest : ℕ) (at : IsIn ns place i rest) (
       ∙ length-insert (under ns) (suc place) x (omega (arith, place_there ns place i rest at))
 
 -- two nodes put in
-pub under_pair : (ns : List NodeView) (i : ℕ) (n m : NodeView) → i ≤ length ns
+pub under_pair : (ns : List TreeNodeView) (i : ℕ) (n m : TreeNodeView) → i ≤ length ns
     → under (insert (insert ns i n) (suc i) m) ≡ under (take i ns) ++ ((n.leaves ++ m.leaves) ++ under (drop i ns))
 under_pair [] zero n m within = sym (append_assoc n.leaves m.leaves [])
 under_pair [] (suc i) n m within = absurd (omega (arith, within))

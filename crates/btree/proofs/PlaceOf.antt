@@ -7,7 +7,7 @@ use Rattle.page.specs.Leaf.{LeafView, first, is_in_fences}
 use Rattle.page.specs.Tiles.{parts_of, TileFrom}
 use Rattle.page.proofs.Halves.{below_trans}
 use Rattle.btree.specs.Leaves.{AreLeaves, place_at}
-use Rattle.btree.specs.Nodes.{NodeView, nothing, under, low_of, AreChildren, IsChild}
+use Rattle.btree.specs.Nodes.{TreeNodeView, nothing, under, low_of, AreChildren, IsChild}
 use Rattle.btree.specs.Finding.{IsIn, IsInside, IsNodeOf, IsPlaceOf, IsLeafOf}
 use Rattle.btree.proofs.AtPlace.{leaf_in, place_there}
 use Rattle.btree.proofs.Tiling.{LiesLater, cases_tile, where_lies, starts_later}
@@ -18,7 +18,7 @@ low_first : (leaves : List LeafView) → 0 < length leaves → low_of leaves ≡
 low_first [] some = absurd (omega (arith, some))
 low_first (leaf ∷ leaves) some = refl
 
-module _ (height : ℕ) (ns : List NodeView) (k : Bytes) (i q : ℕ) (are : AreChildren height ns) (node : IsNodeOf ns k i)
+module _ (height : ℕ) (ns : List TreeNodeView) (k : Bytes) (i q : ℕ) (are : AreChildren height ns) (node : IsNodeOf ns k i)
     (at : IsPlaceOf (get_or ns i nothing).leaves k q) where
   abbrev p : ℕ
   p = length (under (take i ns)) + q

@@ -8,7 +8,7 @@ use Rattle.std.proofs.lemmas.List.{drop_all, set-set, set-get_or}
 use Rattle.page.specs.Leaf.{LeafView}
 use Rattle.btree.specs.Choosing.{pair_top, least, extent_first, extent_last, summary_of, both_of, is_quiet}
 use Rattle.btree.specs.declared.tree.summary.Summary.{Summary}
-use Rattle.btree.specs.Nodes.{NodeView, nothing, under, AreChildren}
+use Rattle.btree.specs.Nodes.{TreeNodeView, nothing, under, AreChildren}
 use Rattle.btree.specs.Parting.{are_few}
 use Rattle.btree.specs.Quiet.{WasSummary, IsQuietAt}
 use Rattle.btree.proofs.AtPlace.{under_set}
@@ -90,7 +90,7 @@ ends [] ys some = refl
 ends (x ∷ xs) ys some = last_both x xs ys some
 
 -- the last leaf below the first of some nodes is that of the last of these
-last_taken : (height : ℕ) (ns : List NodeView) (i : ℕ) → 0 < i → i ≤ length ns → AreChildren height ns
+last_taken : (height : ℕ) (ns : List TreeNodeView) (i : ℕ) → 0 < i → i ≤ length ns → AreChildren height ns
     → extent_last (under (take i ns)) ≡ extent_last (get_or ns (i - 1) nothing).leaves
 last_taken height ns zero some within are = absurd (omega (arith, some))
 last_taken height ns (suc i) some within are =
@@ -98,29 +98,29 @@ last_taken height ns (suc i) some within are =
     ∙ ends (under (take i ns)) (get_or ns i nothing).leaves (all_get _ ns i nothing (omega (arith, within)) are).whole.some
     ∙ ap (λ (j : ℕ). extent_last (get_or ns j nothing).leaves) (omega arith)
 
-pub last_below : (height : ℕ) (ns : List NodeView) → 0 < length ns → AreChildren height ns
+pub last_below : (height : ℕ) (ns : List TreeNodeView) → 0 < length ns → AreChildren height ns
     → extent_last (under ns) ≡ extent_last (get_or ns (length ns - 1) nothing).leaves
 last_below height ns some are =
-    ap (λ (ms : List NodeView). extent_last (under ms)) (sym (take_all (length ns) ns (omega arith)))
+    ap (λ (ms : List TreeNodeView). extent_last (under ms)) (sym (take_all (length ns) ns (omega arith)))
     ∙ last_taken height ns (length ns) some (omega arith) are
 
-pub first_below : (height : ℕ) (ns : List NodeView) → 0 < length ns → AreChildren height ns
+pub first_below : (height : ℕ) (ns : List TreeNodeView) → 0 < length ns → AreChildren height ns
     → extent_first (under ns) ≡ extent_first (get_or ns 0 nothing).leaves
 first_below height [] some are = absurd (omega (arith, some))
 first_below height (n ∷ ns) some are = begins n.leaves (under ns) are.0.whole.some
 
 -- ---- nodes of which one was another
 
-pub was_kept : (ns : List NodeView) (i : ℕ) (n : NodeView) → 0 < length (get_or ns i nothing).leaves
+pub was_kept : (ns : List TreeNodeView) (i : ℕ) (n : TreeNodeView) → 0 < length (get_or ns i nothing).leaves
     → WasSummary (set ns i n) i (summary_of (under ns))
 was_kept ns i n some = record {
   node = get_or ns i nothing;
   some = some;
-  is = ap (λ (ms : List NodeView). summary_of (under ms))
+  is = ap (λ (ms : List TreeNodeView). summary_of (under ms))
       (sym (set-set ns i n (get_or ns i nothing) ∙ set-get_or ns i nothing));
 }
 
-module _ (height : ℕ) (ns : List NodeView) (i : ℕ) (there : i < length ns) (are : AreChildren height ns) where
+module _ (height : ℕ) (ns : List TreeNodeView) (i : ℕ) (there : i < length ns) (are : AreChildren height ns) where
   some_before : 0 < length (under (take i ns)) → 0 < i
   some_before some = by i some
     where
@@ -133,7 +133,7 @@ module _ (height : ℕ) (ns : List NodeView) (i : ℕ) (there : i < length ns) (
       elim (cases_lt (suc i) (length ns)) [
         | inl less ↦ less
         | inr last ↦
-            absurd (omega (arith, some, ap (λ (ms : List NodeView). length (under ms)) (drop_all (suc i) ns last)))
+            absurd (omega (arith, some, ap (λ (ms : List TreeNodeView). length (under ms)) (drop_all (suc i) ns last)))
       ]
 
   pub still_quiet : (before : Summary) → WasSummary ns i before → is_quiet before ≡ true → IsQuietAt ns i

@@ -2,7 +2,7 @@
 use Rattle.std.proofs.Common.{◌≡◌, ℕ, suc, ◌<◌, List, [], ◌∷◌, ◌++◌, length, get_or, set, take, drop, sym, ap, ◌∙◌, arith, append-nil}
 use Rattle.page.specs.Leaf.{LeafView}
 use Rattle.btree.specs.Choosing.{summary_of, both_of}
-use Rattle.btree.specs.Nodes.{NodeView, nothing, under}
+use Rattle.btree.specs.Nodes.{TreeNodeView, nothing, under}
 use Rattle.btree.specs.declared.tree.summary.Summary.{Summary}
 use Rattle.btree.proofs.AtPlace.{under_set}
 use Rattle.btree.proofs.Summed.{summary_append}
@@ -29,7 +29,7 @@ among_others (x ∷ xs) a b back some more same =
     ∙ sym (summary_append (x ∷ xs) (b ++ back) (omega arith) (longer b back more))
 
 -- nodes of which one is another whose leaves have the same summary
-pub resummed : (ns : List NodeView) (i : ℕ) (n : NodeView) → i < length ns → 0 < length (get_or ns i nothing).leaves
+pub resummed : (ns : List TreeNodeView) (i : ℕ) (n : TreeNodeView) → i < length ns → 0 < length (get_or ns i nothing).leaves
     → 0 < length n.leaves → summary_of n.leaves ≡ summary_of (get_or ns i nothing).leaves
     → summary_of (under (set ns i n)) ≡ summary_of (under ns)
 resummed ns i n there some more same =

@@ -9,13 +9,13 @@ use Rattle.record_key.specs.Rows.{Row}
 use Rattle.record_key.specs.Order.{Range, rows_in}
 use Rattle.page.specs.Leaf.{LeafView}
 use Rattle.btree.specs.Finding.{IsNodeOf}
-use Rattle.btree.specs.Nodes.{NodeView, nothing, under, AreChildren}
+use Rattle.btree.specs.Nodes.{TreeNodeView, nothing, under, AreChildren}
 use Rattle.btree.specs.Scanned.{ends_within, is_ended, found_on, found_from, IsScannedOn, IsScannedFrom}
 use Rattle.btree.proofs.PlaceOf.{place_of_nodes}
 use Rattle.btree.proofs.Under.{under_more, under_parts}
 
 -- the nodes after one of them
-pub nodes_after : (ns : List NodeView) (i : ℕ) → take (length ns - (i + 1)) (drop (i + 1) ns) ≡ drop (suc i) ns
+pub nodes_after : (ns : List TreeNodeView) (i : ℕ) → take (length ns - (i + 1)) (drop (i + 1) ns) ≡ drop (suc i) ns
 nodes_after ns i =
     rw add-one (take_all (length ns - suc i) (drop (suc i) ns) (omega (arith, length-drop (suc i) ns)))
 
@@ -102,13 +102,13 @@ module _ (s : Range) where
 
   -- ---- node by node
 
-  module _ (ns : List NodeView) (i : ℕ) (n : NodeView) (within : i < length ns) (is : n ≡ get_or ns i n)
+  module _ (ns : List TreeNodeView) (i : ℕ) (n : TreeNodeView) (within : i < length ns) (is : n ≡ get_or ns i n)
       (old mid new : List Row) (so_far : IsScannedOn s (under (take i ns)) old mid false) where
     pub scanned_more : (ended : Bool) → IsScannedOn s n.leaves mid new ended
         → IsScannedOn s (under (take (suc i) ns)) old new ended
     scanned_more ended one =
         let next : under (take i ns) ++ n.leaves ≡ under (take (suc i) ns) =
-        ap (λ (m : NodeView). under (take i ns) ++ m.leaves) is ∙ sym (under_more ns i n within) in
+        ap (λ (m : TreeNodeView). under (take i ns) ++ m.leaves) is ∙ sym (under_more ns i n within) in
         subst (λ (leaves : List LeafView). IsScannedOn s leaves old new ended) next
         (scanned_past (under (take i ns)) n.leaves old mid new ended so_far one)
 
@@ -116,13 +116,13 @@ module _ (s : Range) where
     scanned_ended one =
         let rest : List LeafView = under (drop (suc i) ns) in
         let all : under (take i ns) ++ (n.leaves ++ rest) ≡ under ns =
-        ap (λ (m : NodeView). under (take i ns) ++ (m.leaves ++ rest)) is ∙ sym (under_parts ns i n within) in
+        ap (λ (m : TreeNodeView). under (take i ns) ++ (m.leaves ++ rest)) is ∙ sym (under_parts ns i n within) in
         subst (λ (leaves : List LeafView). IsScannedOn s leaves old new true) all
         (scanned_past (under (take i ns)) (n.leaves ++ rest) old mid new true so_far
         (scanned_stays n.leaves rest mid new one))
 
   -- the walk that begins in the i-th node
-  module _ (height : ℕ) (ns : List NodeView) (i : ℕ) (are : AreChildren height ns) (node : IsNodeOf ns s.lo i) where
+  module _ (height : ℕ) (ns : List TreeNodeView) (i : ℕ) (are : AreChildren height ns) (node : IsNodeOf ns s.lo i) where
     abbrev here : List LeafView
     here = (get_or ns i nothing).leaves
 

@@ -19,7 +19,7 @@ use Rattle.page.proofs.Sides.{honest_lower, honest_upper}
 use Rattle.btree.specs.Leaves.{AreLeaves, leaf_at, rows_of}
 use Rattle.btree.specs.Parting.{middle, may_split_at, may_merge_at, split_at, merged_at}
 use Rattle.btree.specs.Performs.{performed_at, PerformsAt}
-use Rattle.btree.specs.TreeLaw.{PerformsOne, SameTable, AreHonest, AreCapturedAt}
+use Rattle.btree.specs.TreeLaw.{PerformsOne, SameTable, AreHonestLeaves, AreCapturedAt}
 use Rattle.btree.proofs.Together.{value_from}
 use Rattle.page.proofs.Starts.{inside_fences}
 use Rattle.btree.proofs.Kept.{cuts_inside, kept_performed, kept_raised, kept_lower, kept_upper, kept_joined}
@@ -147,32 +147,32 @@ all_both : (P Q : LeafView → Type 0) (leaves : List LeafView) → AllByRecursi
 all_both P Q [] one two = tt
 all_both P Q (leaf ∷ leaves) one two = ((one.0, two.0), all_both P Q leaves one.1 two.1)
 
-pub performed_honest : (log : List Record) (leaves : List LeafView) (n : ℕ) (o : Op) → AreHonest log leaves
+pub performed_honest : (log : List Record) (leaves : List LeafView) (n : ℕ) (o : Op) → AreHonestLeaves log leaves
     → IsNextOn log (leaf_at leaves (key_of o)) n o
-    → AreHonest log (performed_at leaves n o)
+    → AreHonestLeaves log (performed_at leaves n o)
 performed_honest log leaves n o honest next =
     all_changed (IsHonestLeaf log) (key_of o) (λ leaf. performed leaf n o) leaves
     (λ right. leaf_performed log (leaf_at leaves (key_of o)) n o right next) honest
 
-pub raised_honest : (log : List Record) (leaves : List LeafView) (l : ℕ) → AreHonest log leaves
+pub raised_honest : (log : List Record) (leaves : List LeafView) (l : ℕ) → AreHonestLeaves log leaves
     → AllByRecursion (λ (leaf : LeafView). IsCapturedTo log leaf l) leaves
-    → AreHonest log (map (λ leaf. raised_to leaf l) leaves)
+    → AreHonestLeaves log (map (λ leaf. raised_to leaf l) leaves)
 raised_honest log leaves l honest captured =
     all_mapped (λ (leaf : LeafView). IsHonestLeaf log leaf × IsCapturedTo log leaf l) (IsHonestLeaf log)
     (λ leaf. raised_to leaf l)
     (λ leaf both. leaf_raised log leaf l both.0 both.1) leaves (all_both _ _ leaves honest captured)
 
 pub split_honest : (log : List Record) (leaves : List LeafView) (p id d : ℕ) → AreLeaves leaves
-    → may_split_at leaves p ≡ true → AreHonest log leaves
-    → AreHonest log (split_at p id d leaves)
+    → may_split_at leaves p ≡ true → AreHonestLeaves log leaves
+    → AreHonestLeaves log (split_at p id d leaves)
 split_honest log leaves p id d kept may honest =
     all_split (IsHonestLeaf log) id d (λ leaf is may right.
     let cut = inside_fences leaf (middle leaf) (cuts_inside leaf is may) in
     (honest_lower log leaf (middle leaf) d right cut, honest_upper log leaf (middle leaf) id d right cut)) leaves p
     kept.each may honest
 
-pub merged_honest : (log : List Record) (leaves : List LeafView) (p d : ℕ) → AreLeaves leaves → AreHonest log leaves
+pub merged_honest : (log : List Record) (leaves : List LeafView) (p d : ℕ) → AreLeaves leaves → AreHonestLeaves log leaves
     → AreCapturedAt log leaves p
-    → AreHonest log (merged_at p d leaves)
+    → AreHonestLeaves log (merged_at p d leaves)
 merged_honest log leaves p d kept honest captured =
     all_merged (IsHonestLeaf log) d leaves p (honest_merged_at log leaves p d kept honest captured) honest

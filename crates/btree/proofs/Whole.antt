@@ -2,7 +2,7 @@
 use Rattle.std.proofs.Common.{◌≡◌, ℕ, zero, suc, ◌<◌, ◌≤◌, List, [], ◌∷◌, length, get_or, set, take, drop, sym, ap, subst, arith, length-append}
 use Rattle.std.specs.List.{AllByRecursion, remove}
 use Rattle.record_key.proofs.Lists.{all_appended}
-use Rattle.btree.specs.Nodes.{NodeView, under, over_nodes, height_in, AreChildren, IsChild}
+use Rattle.btree.specs.Nodes.{TreeNodeView, under, over_nodes, height_in, AreChildren, IsChild}
 
 module _ {X : Type 0} (P : X → Type 0) where
   pub all_get : (xs : List X) (i : ℕ) (d : X) → i < length xs → AllByRecursion P xs → P (get_or xs i d)
@@ -29,20 +29,20 @@ module _ {X : Type 0} (P : X → Type 0) where
   all_removed xs i all = all_appended P (take i xs) (drop (suc i) xs) (all_take i xs all) (all_drop (suc i) xs all)
 
 -- nodes at one height are at the height of the first
-pub at_first : (height : ℕ) (ns : List NodeView) → AreChildren height ns → AreChildren (height_in ns) ns
+pub at_first : (height : ℕ) (ns : List TreeNodeView) → AreChildren height ns → AreChildren (height_in ns) ns
 at_first height [] are = tt
 at_first height (n ∷ ns) are = subst (λ (h : ℕ). AreChildren h (n ∷ ns)) (sym are.0.level) are
 
-pub height_of : (height : ℕ) (ns : List NodeView) → 0 < length ns → AreChildren height ns → height_in ns ≡ height
+pub height_of : (height : ℕ) (ns : List TreeNodeView) → 0 < length ns → AreChildren height ns → height_in ns ≡ height
 height_of height [] some are = absurd (omega (arith, some))
 height_of height (n ∷ ns) some are = are.0.level
 
-pub some_under : (height : ℕ) (ns : List NodeView) → 0 < length ns → AreChildren height ns → 0 < length (under ns)
+pub some_under : (height : ℕ) (ns : List TreeNodeView) → 0 < length ns → AreChildren height ns → 0 < length (under ns)
 some_under height [] some are = absurd (omega (arith, some))
 some_under height (n ∷ ns) some are = omega (arith, length-append n.leaves (under ns), are.0.whole.some)
 
 -- a node over two to eight of them
-pub child_over : (height : ℕ) (ns : List NodeView) → AreChildren height ns → 2 ≤ length ns → length ns ≤ 8
+pub child_over : (height : ℕ) (ns : List TreeNodeView) → AreChildren height ns → 2 ≤ length ns → length ns ≤ 8
     → IsChild (suc height) (over_nodes ns)
 child_over height ns are two eight = record {
   level = ap suc (height_of height ns (omega (arith, two)) are);

@@ -4,17 +4,17 @@ use Rattle.std.specs.Vec.{vec_capacity}
 use Rattle.std.specs.declared.alloc.Global.{Global}
 use Rattle.record_key.specs.Table.{Bytes}
 use Rattle.btree.specs.Choosing.{summary_of}
-use Rattle.btree.specs.Nodes.{NodeView, over_leaf, over_nodes, low_of, height_in, AreChildren}
+use Rattle.btree.specs.Nodes.{TreeNodeView, over_leaf, over_nodes, low_of, height_in, AreChildren}
 use Rattle.btree.specs.declared.tree.node.Below.{Below}
 use Rattle.btree.specs.declared.tree.summary.Summary.{Summary}
 use Rattle.btree.specs.declared.tree.node.Below.TheVariants.{Leaf, Inner}
 
-abbrev pub seen : Below → NodeView
+abbrev pub seen : Below → TreeNodeView
 seen (Leaf leaf) = over_leaf leaf.value
 seen (Inner nodes) = over_nodes nodes.items
 
 -- the children are whole and at one height, and their block has room for one more than eight
-pub record AreBelow (nodes : Vec NodeView Global) : Type 0 where
+pub record AreBelow (nodes : Vec TreeNodeView Global) : Type 0 where
   pub children : AreChildren (height_in nodes.items) nodes.items
   pub most : length nodes.items ≤ 8
   pub room : 0 < length nodes.items → 8 < vec_capacity nodes

@@ -3,15 +3,15 @@ use Rattle.std.specs.Prelude.{ℕ, suc, ◌+◌, ◌≤◌, max, List, [], ◌�
 use Rattle.std.proofs.Common.{arith}
 use denote.Param.Weighed.{most}
 use Rattle.record_key.specs.Table.{Bytes}
-use Rattle.btree.specs.Nodes.{NodeView, height_in, AreChildren}
+use Rattle.btree.specs.Nodes.{TreeNodeView, height_in, AreChildren}
 use Rattle.btree.specs.declared.tree.node.Below.{Below}
 use Rattle.btree.specs.declared.tree.node.Below.TheVariants.{Leaf, Inner}
 use Rattle.btree.specs.declared.tree.summary.Summary.{Summary}
 use Rattle.btree.specs.declared.tree.node.Node.TheDeep.{deep-Below}
 use Rattle.btree.specs.Below.{seen, IsNode, IsBelow}
 
-most_below : (height : ℕ) (nodes : List NodeView) → AreChildren height nodes
-    → most (λ (n : NodeView). n.height + 1) nodes ≤ suc height
+most_below : (height : ℕ) (nodes : List TreeNodeView) → AreChildren height nodes
+    → most (λ (n : TreeNodeView). n.height + 1) nodes ≤ suc height
 most_below height [] are = omega arith
 most_below height (node ∷ nodes) are = omega (arith, are.0.level, most_below height nodes are.1)
 

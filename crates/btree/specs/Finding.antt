@@ -4,29 +4,29 @@ use Rattle.record_key.specs.Table.{Bytes}
 use Rattle.record_key.specs.Order.{starts_at_most}
 use Rattle.page.specs.Leaf.{LeafView, first, is_in_fences}
 use Rattle.btree.specs.Choosing.{first_large, first_pair}
-use Rattle.btree.specs.Nodes.{NodeView, nothing, under, low_of}
+use Rattle.btree.specs.Nodes.{TreeNodeView, nothing, under, low_of}
 
 -- a place among leaves is this one in the i-th of the nodes that hold them
-pub record IsIn (nodes : List NodeView) (place i rest : ℕ) : Type 0 where
+pub record IsIn (nodes : List TreeNodeView) (place i rest : ℕ) : Type 0 where
   pub there : i < length nodes
   pub within : rest < length (get_or nodes i nothing).leaves
   pub is : place ≡ length (under (take i nodes)) + rest
 
 -- the i-th of some nodes begins at the key or below, and the next one above it
-pub record IsNodeOf (nodes : List NodeView) (k : Bytes) (i : ℕ) : Type 0 where
+pub record IsNodeOf (nodes : List TreeNodeView) (k : Bytes) (i : ℕ) : Type 0 where
   pub there : i < length nodes
   pub starts : 0 < i → starts_at_most (low_of (get_or nodes i nothing).leaves) k ≡ true
   pub ends : suc i < length nodes → starts_at_most (low_of (get_or nodes (suc i) nothing).leaves) k ≡ false
 
 -- the first large leaf to be tended below some nodes lies below the i-th of them, after so many others
-pub record IsLargeIn (known : ℕ) (nodes : List NodeView) (i before : ℕ) : Type 0 where
+pub record IsLargeIn (known : ℕ) (nodes : List TreeNodeView) (i before : ℕ) : Type 0 where
   pub there : i < length nodes
   pub large : is_some (first_large known (get_or nodes i nothing).leaves) ≡ true
   pub is : (place : ℕ) → first_large known (get_or nodes i nothing).leaves ≡ Some place
       → first_large known (under nodes) ≡ Some (before + place)
 
 -- the first pair below some nodes lies below the i-th of them, or begins with its last leaf, after so many others
-pub record IsPairIn (known : ℕ) (nodes : List NodeView) (i before : ℕ) : Type 0 where
+pub record IsPairIn (known : ℕ) (nodes : List TreeNodeView) (i before : ℕ) : Type 0 where
   pub there : i < length nodes
   pub inside : (place : ℕ) → first_pair known (get_or nodes i nothing).leaves ≡ Some place
       → first_pair known (under nodes) ≡ Some (before + place)

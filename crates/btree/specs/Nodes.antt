@@ -7,28 +7,28 @@ use Rattle.record_key.specs.Table.{Bytes}
 use Rattle.page.specs.Leaf.{LeafView, first, raised_to}
 
 -- the leaves below a node in key order, the levels between, and how many children it has; a leaf has none
-pub record NodeView : Type 0 where
+pub record TreeNodeView : Type 0 where
   pub leaves : List LeafView
   pub height : ℕ
   pub kids : ℕ
 
-abbrev pub nothing : NodeView
+abbrev pub nothing : TreeNodeView
 nothing = record { leaves = []; height = 0; kids = 0 }
 
-abbrev pub over_leaf : LeafView → NodeView
+abbrev pub over_leaf : LeafView → TreeNodeView
 over_leaf leaf = record { leaves = leaf ∷ []; height = 0; kids = 0 }
 
 -- the leaves below nodes, one node after another
-abbrev pub under : List NodeView → List LeafView
+abbrev pub under : List TreeNodeView → List LeafView
 under [] = []
 under (node ∷ nodes) = node.leaves ++ under nodes
 
 -- the height of nodes that are all of one
-abbrev pub height_in : List NodeView → ℕ
+abbrev pub height_in : List TreeNodeView → ℕ
 height_in [] = 0
 height_in (node ∷ nodes) = node.height
 
-abbrev pub over_nodes : List NodeView → NodeView
+abbrev pub over_nodes : List TreeNodeView → TreeNodeView
 over_nodes nodes = record { leaves = under nodes; height = suc (height_in nodes); kids = length nodes }
 
 -- where the first of some leaves begins
@@ -37,22 +37,22 @@ low_of [] = None
 low_of (leaf ∷ leaves) = leaf.low_fence
 
 -- a node as it stands in a tree: a leaf, or one with two to eight children
-pub record IsWhole (node : NodeView) : Type 0 where
+pub record IsWhole (node : TreeNodeView) : Type 0 where
   pub some : 0 < length node.leaves
   pub one : node.height ≡ 0 → length node.leaves ≡ 1
   pub two : 0 < node.height → 2 ≤ node.kids
   pub eight : node.kids ≤ 8
 
 -- the same, at this height
-pub record IsChild (height : ℕ) (node : NodeView) : Type 0 where
+pub record IsChild (height : ℕ) (node : TreeNodeView) : Type 0 where
   pub level : node.height ≡ height
   pub whole : IsWhole node
 
-abbrev pub AreChildren : ℕ → List NodeView → Type 0
+abbrev pub AreChildren : ℕ → List TreeNodeView → Type 0
 AreChildren height nodes = AllByRecursion (IsChild height) nodes
 
 -- a node at this height of which a child may have gone: one may be left
-pub record IsReduced (height : ℕ) (node : NodeView) : Type 0 where
+pub record IsReduced (height : ℕ) (node : TreeNodeView) : Type 0 where
   pub level : node.height ≡ height
   pub inner : 0 < height
   pub some : 0 < length node.leaves
@@ -60,16 +60,16 @@ pub record IsReduced (height : ℕ) (node : NodeView) : Type 0 where
   pub eight : node.kids ≤ 8
 
 -- a node in which the leaf at a place alone is another one, which begins where the old one did
-pub record IsChangedAt (place : ℕ) (old new : NodeView) : Type 0 where
+pub record IsChangedAt (place : ℕ) (old new : TreeNodeView) : Type 0 where
   pub leaves : new.leaves ≡ set old.leaves place (get_or new.leaves place first)
   pub height : new.height ≡ old.height
   pub kids : new.kids ≡ old.kids
   pub begins : (get_or new.leaves place first).low_fence ≡ (get_or old.leaves place first).low_fence
 
 -- the node with its leaves counting each request up to this number as performed
-abbrev pub raised_node : ℕ → NodeView → NodeView
+abbrev pub raised_node : ℕ → TreeNodeView → TreeNodeView
 raised_node low node = record node { leaves = map (λ leaf. raised_to leaf low) node.leaves }
 
 -- blocks in which a node's children have room, and one more
-abbrev pub AreSpare : List (Vec NodeView Global) → Type 0
-AreSpare blocks = AllByRecursion (λ (block : Vec NodeView Global). (block.items ≡ []) × (8 < vec_capacity block)) blocks
+abbrev pub AreSpare : List (Vec TreeNodeView Global) → Type 0
+AreSpare blocks = AllByRecursion (λ (block : Vec TreeNodeView Global). (block.items ≡ []) × (8 < vec_capacity block)) blocks

@@ -11,7 +11,7 @@ use Rattle.page.specs.Leaf.{LeafView, first, performed}
 use Rattle.page.specs.Performs.{Performs}
 use Rattle.btree.specs.Finding.{IsPlaceOf}
 use Rattle.btree.specs.Leaves.{leaf_at, changed_at}
-use Rattle.btree.specs.Nodes.{NodeView, IsChangedAt}
+use Rattle.btree.specs.Nodes.{TreeNodeView, IsChangedAt}
 
 -- the leaf of the key performs it, and the others stay as they were
 abbrev pub performed_at : List LeafView → ℕ → Op → List LeafView
@@ -32,7 +32,7 @@ pub record IsAsked (old new : LeafView) (n : ℕ) (o : Op) (result : Result Done
   pub refused : OnErr result (new ≡ old)
 
 -- and below a node: the leaf of the key alone is asked
-pub record IsAskedBelow (old : NodeView) (n : ℕ) (o : Op) (result : Result Done Refusal) (new : NodeView) : Type 0 where
+pub record IsAskedBelow (old : TreeNodeView) (n : ℕ) (o : Op) (result : Result Done Refusal) (new : TreeNodeView) : Type 0 where
   pub place : ℕ
   pub at : IsPlaceOf old.leaves (key_of o) place
   pub changed : IsChangedAt place old new

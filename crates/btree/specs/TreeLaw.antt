@@ -31,8 +31,8 @@ pub record SameTable (old new : List LeafView) : Type 0 where
   pub rows : rows_of new ≡ rows_of old
 
 -- each leaf is honest for the log
-abbrev pub AreHonest : List Record → List LeafView → Type 0
-AreHonest log leaves = AllByRecursion (IsHonestLeaf log) leaves
+abbrev pub AreHonestLeaves : List Record → List LeafView → Type 0
+AreHonestLeaves log leaves = AllByRecursion (IsHonestLeaf log) leaves
 
 -- the leaf at a place and the one after it have each captured the log's numbers on its keys up to the other's low number
 pub record AreCapturedAt (log : List Record) (leaves : List LeafView) (p : ℕ) : Type 0 where
@@ -51,13 +51,13 @@ pub record TreeLaw : Type 0 where
       → SameTable leaves (split_at p id d leaves)
   pub merges : (leaves : List LeafView) (p d : ℕ) → AreLeaves leaves → may_merge_at leaves p ≡ true
       → SameTable leaves (merged_at p d leaves)
-  pub performed_honest : (log : List Record) (leaves : List LeafView) (n : ℕ) (o : Op) → AreHonest log leaves
-      → IsNextOn log (leaf_at leaves (key_of o)) n o → AreHonest log (performed_at leaves n o)
-  pub raised_honest : (log : List Record) (leaves : List LeafView) (l : ℕ) → AreHonest log leaves
+  pub performed_honest : (log : List Record) (leaves : List LeafView) (n : ℕ) (o : Op) → AreHonestLeaves log leaves
+      → IsNextOn log (leaf_at leaves (key_of o)) n o → AreHonestLeaves log (performed_at leaves n o)
+  pub raised_honest : (log : List Record) (leaves : List LeafView) (l : ℕ) → AreHonestLeaves log leaves
       → AllByRecursion (λ (leaf : LeafView). IsCapturedTo log leaf l) leaves
-      → AreHonest log (map (λ leaf. raised_to leaf l) leaves)
+      → AreHonestLeaves log (map (λ leaf. raised_to leaf l) leaves)
   pub split_honest : (log : List Record) (leaves : List LeafView) (p id d : ℕ) → AreLeaves leaves
-      → may_split_at leaves p ≡ true → AreHonest log leaves → AreHonest log (split_at p id d leaves)
+      → may_split_at leaves p ≡ true → AreHonestLeaves log leaves → AreHonestLeaves log (split_at p id d leaves)
   pub merged_honest : (log : List Record) (leaves : List LeafView) (p d : ℕ) → AreLeaves leaves
-      → may_merge_at leaves p ≡ true → AreHonest log leaves → AreCapturedAt log leaves p
-      → AreHonest log (merged_at p d leaves)
+      → may_merge_at leaves p ≡ true → AreHonestLeaves log leaves → AreCapturedAt log leaves p
+      → AreHonestLeaves log (merged_at p d leaves)

@@ -10,7 +10,7 @@ use Rattle.codec.specs.declared.request.Request.TheVariants as asks
 use Rattle.codec.specs.declared.reply.Reply.{Reply}
 use Rattle.codec.specs.declared.reply.Reply.TheVariants as says
 use Rattle.codec.specs.Fields.{number, IsNumber, optional, op_bytes}
-use Rattle.codec.specs.Parted.{both, asking_of, answered_of, asked}
+use Rattle.codec.specs.Parted.{both, asking_of, answered_of, asked_parts}
 use Rattle.codec.specs.Reading.{Reader, pair, mapped, number_at, op_at, optional_at, answer_at}
 use Rattle.codec.specs.Replies.{reply_bytes, IsReply}
 use Rattle.codec.specs.Requests.{request_bytes, IsRequest}
@@ -29,7 +29,7 @@ other_kind {kind = kind} {wanted = wanted} other stands same = eqb-false kind wa
 
 -- three numbers and an operation, which is kept apart
 abbrev pub asked_at : Reader (Asking × Option Op)
-asked_at = mapped asked (pair number_at (pair number_at (pair number_at op_at)))
+asked_at = mapped asked_parts (pair number_at (pair number_at (pair number_at op_at)))
 
 -- the numbers and the operation that were read, if any
 abbrev pub both_first : Option ((Asking × Option Op) × List ℕ) → Option (Asking × Op)
@@ -44,7 +44,7 @@ asking_told (asks.Perform session n stable o) k tail fits stands two =
     let fields : List ℕ = number session ++ (number n ++ (number stable ++ op_bytes o)) in
     let same : tail ≡ fields = cc stands in
     ap (λ (b : List ℕ). both_first (asked_at b)) (same ∙ sym (append-nil fields))
-    ∙ ap both_first (made_again perform_reads asked (session, (n, (stable, o))) [] fits)
+    ∙ ap both_first (made_again perform_reads asked_parts (session, (n, (stable, o))) [] fits)
 asking_told (asks.Connect session end) k tail fits stands two = absurd (other_kind refl stands two)
 asking_told (asks.Get session read key) k tail fits stands two = absurd (other_kind refl stands two)
 asking_told (asks.Scan session read low high) k tail fits stands two = absurd (other_kind refl stands two)

@@ -49,5 +49,5 @@ rows_of (says.Rows session read rows) = Some (says.Rows session read rows)
 rows_of _ = None
 
 -- the fields of a request to perform, of which the operation is kept apart
-abbrev pub asked : ℕ × (ℕ × (ℕ × Op)) → Asking × Option Op
-asked p = (record { session = p.0; number = p.1.0; stable = p.1.1.0 }, Some p.1.1.1)
+abbrev pub asked_parts : ℕ × (ℕ × (ℕ × Op)) → Asking × Option Op
+asked_parts p = (record { session = p.0; number = p.1.0; stable = p.1.1.0 }, Some p.1.1.1)

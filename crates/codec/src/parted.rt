@@ -7,7 +7,7 @@ ghost use Rattle.codec.specs.declared.reply.Reply.{Reply};
 ghost use Rattle.codec.specs.declared.reply.Reply.TheVariants as says;
 ghost use Rattle.codec.specs.Fields.{IsNumber};
 ghost use Rattle.codec.specs.Frames.{frame, any_length};
-ghost use Rattle.codec.specs.Parted.{asking_of, answered_of, both, asked};
+ghost use Rattle.codec.specs.Parted.{asking_of, answered_of, both, asked_parts};
 ghost use Rattle.codec.specs.Reading.{Gives, pair, mapped, number_at, op_at};
 ghost use Rattle.codec.specs.Replies.{reply_bytes, IsReply};
 ghost use Rattle.codec.specs.Requests.{request_bytes, IsRequest};
@@ -56,7 +56,7 @@ fn asking_in(body: &[u8], op: &mut Option<Op>) -> Option<Asking>
 
 /// A request's numbers and its operation, and the bytes after them.
 pub(crate) fn take_asked<'a>(bytes: &'a [u8], op: &mut Option<Op>) -> Option<(Asking, &'a [u8])>
-    ensures { Gives (λ x. ((x.0, op.new), x.1.now)) result (mapped asked
+    ensures { Gives (λ x. ((x.0, op.new), x.1.now)) result (mapped asked_parts
         (pair number_at (pair number_at (pair number_at op_at))) bytes.now) }
 {
     let (session, rest) = take_number(bytes)?;

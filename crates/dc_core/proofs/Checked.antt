@@ -14,7 +14,7 @@ use Rattle.system_txn.specs.declared.tended.Tended.{Tended}
 use Rattle.system_txn.proofs.Checked as systems
 use Rattle.system_txn.proofs.Checkpointed.{checkpoint_reaches}
 use Rattle.stable.specs.Usage.{Usage}
-use Rattle.dc_core.specs.DcView.{DcView, fresh, captures_at}
+use Rattle.dc_core.specs.DcView.{DcView, fresh_dc, captures_at}
 use Rattle.dc_core.specs.Kept.{IsDc}
 use Rattle.dc_core.specs.Serves.{runs, serve_refusal, Serves, Stops, StopsUnless, ServeGives}
 use Rattle.dc_core.specs.Tends.{may_merge, SplitsTo, MergesTo, TendsTo, FlushesTo}
@@ -101,7 +101,7 @@ checked_flush old k given new kept h gives =
 
 -- ---- where a number is checked first
 
-pub fresh_checked : (log_usage page_usage : Usage) → IsChecked 0 (fresh log_usage page_usage).system
+pub fresh_checked : (log_usage page_usage : Usage) → IsChecked 0 (fresh_dc log_usage page_usage).system
 fresh_checked log_usage page_usage = systems.fresh_checked log_usage page_usage
 
 -- from the reply on

@@ -182,7 +182,7 @@ module _ (w : DcView) (end : ℕ) (k : IsDc w) (back : MayTakeBack w end) where
           once = subst listing.IsOnce same (once_kept end all k.once);
           captured = captured_new;
           saved = saved_new;
-          answered = subst (laws.AreAnswered w.opened) same (answered_kept w.opened all end k.answered k.falls);
+          answered = subst (laws.AreAnsweredInPlace w.opened) same (answered_kept w.opened all end k.answered k.falls);
           falls = λ q. subst (listing.FallOn q) same (falls_kept end q all (k.falls q));
           added = subst (λ (ps : List laws.Performance). AllByRecursion (ArePerformed w.opened_to ps) new) same
               added_new;

@@ -24,7 +24,7 @@ use Rattle.btree.proofs.Stays.{performs_one}
 use Rattle.recovery_laws.specs.Recovery.{stored_session}
 use Rattle.framed_log.specs.Beginning.{beginning}
 use Rattle.stable.specs.Usage.{Usage}
-use Rattle.system_txn.specs.SystemView.{SystemView, fresh as fresh_system}
+use Rattle.system_txn.specs.SystemView.{SystemView, fresh_system}
 use Rattle.system_txn.specs.Kept.{IsSystem}
 use Rattle.dc_core.specs.declared.performance.Performance.{Performance}
 use Rattle.take_back_laws.specs.Performed as laws

@@ -45,7 +45,7 @@ added_at (Add k x) old was = refl
 abbrev IsAdd : Performance → Type 0
 IsAdd p = was_added p.answer ≡ true → is_add p.op ≡ true
 
-all_add : (opened : Table) (ps : List Performance) → laws.AreAnswered opened (for_laws ps) → AllByRecursion IsAdd ps
+all_add : (opened : Table) (ps : List Performance) → laws.AreAnsweredInPlace opened (for_laws ps) → AllByRecursion IsAdd ps
 all_add opened [] all = tt
 all_add opened (p ∷ ps) all = (
   λ was. added_at p.op _ (sym (ap was_added all.0) ∙ was),

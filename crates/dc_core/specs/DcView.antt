@@ -7,7 +7,7 @@ use Rattle.btree.specs.Leaves.{leaf_at}
 use Rattle.page.specs.Leaf.{LeafView}
 use Rattle.page.specs.Tops.{top}
 use Rattle.stable.specs.Usage.{Usage}
-use Rattle.system_txn.specs.SystemView.{SystemView, fresh as fresh_system}
+use Rattle.system_txn.specs.SystemView.{SystemView, fresh_dc as fresh_system}
 use Rattle.dc_core.specs.declared.performance.Performance.{Performance}
 
 -- the greatest session taken and the one that runs, 0 if none; whether redo goes on; up to which number no request is
@@ -36,8 +36,8 @@ abbrev pub value_at : DcView → Bytes → Option Bytes
 value_at w k = map.get (leaf_at (leaves w) k).rows k
 
 -- no session was taken, nothing was performed; the devices were used so
-abbrev pub fresh : Usage → Usage → DcView
-fresh log_usage page_usage = record {
+abbrev pub fresh_dc : Usage → Usage → DcView
+fresh_dc log_usage page_usage = record {
   stored = 0;
   session = 0;
   redo = false;

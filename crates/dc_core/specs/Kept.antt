@@ -48,7 +48,7 @@ pub record IsDc (w : DcView) : Type 0 where
   pub saved : AllByRecursion (AreListed w.performed) (leaves w)
   -- each was answered at its place; on each key the numbers fall, but for Adds among Adds; and an entry with a greater
   -- number than any that the leaves were opened with is that of a performance
-  pub answered : laws.AreAnswered w.opened (for_laws w.performed)
+  pub answered : laws.AreAnsweredInPlace w.opened (for_laws w.performed)
   pub falls : (k : Bytes) → listing.FallOn k (for_laws w.performed)
   pub added : AllByRecursion (ArePerformed w.opened_to (for_laws w.performed)) (leaves w)
   -- the session that runs, if any, is the greatest one taken, and the stable log has one at least as great

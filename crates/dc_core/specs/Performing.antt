@@ -9,12 +9,12 @@ use Rattle.codec.specs.declared.reply.Reply.{Reply}
 use Rattle.codec.specs.declared.reply.Reply.TheVariants as says
 
 -- the answer, if it is still kept
-abbrev pub answer_of : Done → Option Answer
-answer_of (Performed a) = Some a
-answer_of (Repeated a) = a
+abbrev pub answer_if_kept : Done → Option Answer
+answer_if_kept (Performed a) = Some a
+answer_if_kept (Repeated a) = a
 
 abbrev pub reply_with : Asking → Done → Reply
-reply_with q done = says.Answered q.session q.number (answer_of done)
+reply_with q done = says.Answered q.session q.number (answer_if_kept done)
 
 abbrev pub replied : Asking → Result Done Refusal → Result (Option Reply) Refusal
 replied q (Ok done) = Ok (Some (reply_with q done))

@@ -14,7 +14,7 @@ ghost use Rattle.codec.specs.Requests.{HasRequestNumbers};
 ghost use Rattle.page.specs.Leaf.{first};
 ghost use Rattle.btree.specs.Leaves.{all_rows};
 ghost use Rattle.std.specs.Option.{option_copied};
-ghost use Rattle.dc_core.specs.DcView.{fresh, leaves, value_at};
+ghost use Rattle.dc_core.specs.DcView.{fresh_dc, leaves, value_at};
 ghost use Rattle.dc_core.specs.Performing.{replied};
 ghost use Rattle.dc_core.specs.Serves.{serve_refusal, session_refusal, after_redo_refusal, MayAsk, ServeGives, with_system};
 ghost use Rattle.dc_core.specs.Shows.{Shows};
@@ -61,7 +61,7 @@ impl<D: LogDevice, P: PageDevice> Dc<D, P> {
         P: Drop,
         requires logged { (D.forced log ≡ []) × (D.pending log ≡ []) }
         requires written { P.pages pages ≡ map.empty }
-        ensures fresh { IfOk result (λ dc. dc ≡ fresh (D.usage log) (P.usage pages)) }
+        ensures fresh { IfOk result (λ dc. dc ≡ fresh_dc (D.usage log) (P.usage pages)) }
         ensures memory { IfErr result (λ refusal. refusal ≡ Refusal.NoMemory) }
     {
         Ok(Dc {

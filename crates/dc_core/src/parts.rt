@@ -11,7 +11,7 @@ ghost use Rattle.system_txn.specs.Uses.{StopsOpening, log_calls, page_calls};
 ghost use Rattle.dc_core.specs.Restarting.{restarted};
 ghost use Rattle.dc_core.specs.Serves.{runs, session_refusal, after_redo_refusal, connect_refusal, serve_refusal, with_system};
 ghost use Rattle.dc_core.specs.Tends.{may_merge};
-ghost use Rattle.dc_core.specs.DcView.{fresh};
+ghost use Rattle.dc_core.specs.DcView.{fresh_dc};
 ghost use Rattle.dc_core.specs.Kept.{IsDc};
 ghost use Rattle.dc_core.specs.Seen.{seen};
 
@@ -51,7 +51,7 @@ impl<D: LogDevice, P: PageDevice> Parts<D, P> {
         requires logged { (D.forced log ≡ []) × (D.pending log ≡ []) }
         requires written { P.pages pages ≡ map.empty }
         ensures kept { IfOk result (λ parts. IsDc (seen parts)) }
-        ensures fresh { IfOk result (λ parts. seen parts ≡ fresh (D.usage log) (P.usage pages)) }
+        ensures fresh { IfOk result (λ parts. seen parts ≡ fresh_dc (D.usage log) (P.usage pages)) }
         ensures memory { IfErr result (λ refusal. refusal ≡ Refusal.NoMemory) }
     {
         let system = match System::new(alloc, log, pages) {

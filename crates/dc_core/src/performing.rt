@@ -5,7 +5,7 @@ ghost use Rattle.record_key.specs.Table.{key_of};
 ghost use Rattle.dc_core.specs.DcView.{captures_at};
 ghost use Rattle.dc_core.specs.Serves.{MayPerform};
 ghost use Rattle.dc_core.specs.Kept.{IsDc};
-ghost use Rattle.dc_core.specs.Performing.{answer_of};
+ghost use Rattle.dc_core.specs.Performing.{answer_if_kept};
 ghost use Rattle.dc_core.specs.Seen.{seen, Answers};
 
 use crate::parts::Parts;
@@ -21,7 +21,7 @@ impl<D: LogDevice, P: PageDevice> Parts<D, P> {
         requires numbered { number < 2 ^ 48 }
         requires may { MayPerform (seen self.old) number op.now }
         ensures kept { IsDc (seen self.new) }
-        ensures answered { IfOk done.new (λ done. Answers (seen self.old) number op.now (answer_of done) (seen self.new)) }
+        ensures answered { IfOk done.new (λ done. Answers (seen self.old) number op.now (answer_if_kept done) (seen self.new)) }
         ensures refused { IfErr done.new (λ refusal. refusal ≡ Refusal.NoMemory) }
         ensures memory { captures_at (seen self.old) (key_of op.now) number ≡ true → IsOk done.new }
         ensures unchanged { OnErr done.new (seen self.new ≡ seen self.old) }
@@ -47,7 +47,7 @@ impl<D: LogDevice, P: PageDevice> Parts<D, P> {
 
 /// The answer that an operation was given, if it is still kept.
 pub fn answer_of(done: &Done) -> Option<&Answer>
-    ensures { option_copied result ≡ answer_of done.now }
+    ensures { option_copied result ≡ answer_if_kept done.now }
 {
     match done {
         Done::Performed(answer) => Some(answer),
@@ -57,7 +57,7 @@ pub fn answer_of(done: &Done) -> Option<&Answer>
 
 /// The same of one that is handed over.
 pub fn into_answer(done: Done) -> Option<Answer>
-    ensures { result ≡ answer_of done }
+    ensures { result ≡ answer_if_kept done }
 {
     match done {
         Done::Performed(answer) => Some(answer),

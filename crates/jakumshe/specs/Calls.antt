@@ -100,11 +100,11 @@ saves (out.Saved s) = Some (Ok s)
 saves o = None
 
 -- how an operation ends that was answered so
-abbrev pub ended : Answer → Result (Unit {0}) Fault
-ended answer.Exists = Err Exists
-ended answer.NoRecord = Err NoRecord
-ended answer.NotNumber = Err NotNumber
-ended _ = Ok tt
+abbrev pub ended_by : Answer → Result (Unit {0}) Fault
+ended_by answer.Exists = Err Exists
+ended_by answer.NoRecord = Err NoRecord
+ended_by answer.NotNumber = Err NotNumber
+ended_by _ = Ok tt
 
 -- how a read ends that has found this
 abbrev pub found : Option (List ℕ) → Result (List ℕ) Fault
@@ -114,7 +114,7 @@ found None = Err NoRecord
 -- what ends a call of this transaction: an operation's answer, the value of a read, its rows, that it is back at this
 -- savepoint, that it is rolled back, that it has committed
 abbrev pub answers : ℕ → Out → Option (Result (Unit {0}) Fault)
-answers t (out.Answered u a) = if u == t then Some (ended a) else None
+answers t (out.Answered u a) = if u == t then Some (ended_by a) else None
 answers t o = None
 
 abbrev pub finds : ℕ → Out → Option (Result (List ℕ) Fault)

@@ -4,11 +4,11 @@ use Rattle.stable.specs.Usage.{Usage}
 use Rattle.framed_log.specs.Beginning.{beginning}
 use Rattle.logical_log.specs.Spelled.{spelled}
 use Rattle.simulation.specs.Reading.{machine_read}
-use Rattle.dc_core.specs.DcView.{fresh}
+use Rattle.dc_core.specs.DcView.{fresh_dc}
 use Rattle.tc_core.specs.Opening.{IsOpened}
 use Rattle.node_laws.specs.declared.event.Out.{Out}
 use Rattle.node_laws.specs.Node.{NodeView, joined}
-use Rattle.node_laws.specs.Simulation.{Stands}
+use Rattle.node_laws.specs.Simulation.{NodeStandsFor}
 use Rattle.node_store.specs.declared.unopened.Cause.{Cause}
 use Rattle.node_store.specs.Opening.{IsRefusedFor}
 use Rattle.record_key.specs.declared.refusal.Refusal.{Refusal}
@@ -28,8 +28,8 @@ pub record IsMadeOn (bytes : List ℕ) (w : NodeView) : Type 0 where
   pub tree : Usage
   pub pages : Usage
   pub opened : IsOpened bytes log w.tc
-  pub joins : w ≡ joined w.tc (fresh tree pages)
-  pub stands : Stands w (machine_read w.tc.log)
+  pub joins : w ≡ joined w.tc (fresh_dc tree pages)
+  pub stands : NodeStandsFor w (machine_read w.tc.log)
 
 -- one that has settled since, and how many bytes its log had before
 pub record IsOpenedOn (bytes : List ℕ) (kept : ℕ) (new : NodeView) : Type 0 where

@@ -1,6 +1,6 @@
 //! How a call ends, by the first line that tells of it among all that a node tells while it settles.
 ghost use Rattle.std.specs.Prelude.{◌≡◌, ◌∷◌, [], true, false, Some, None, Ok, Err, IfOk, IfErr};
-ghost use Rattle.jakumshe.specs.Calls.{first_of, ended, begins, saves, answers, finds, lists, goes_back, rolls_back, commits};
+ghost use Rattle.jakumshe.specs.Calls.{first_of, ended_by, begins, saves, answers, finds, lists, goes_back, rolls_back, commits};
 
 use crate::fault::Fault;
 use codec::Rows;
@@ -42,7 +42,7 @@ pub fn answer(told: &[Out], txn: u64) -> Result<(), Fault>
 }
 
 fn ended(answer: &Answer) -> Result<(), Fault>
-    ensures { result ≡ ended answer.now }
+    ensures { result ≡ ended_by answer.now }
 {
     match answer {
         Answer::Exists => Err(Fault::Exists),

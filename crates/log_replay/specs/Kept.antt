@@ -19,9 +19,9 @@ abbrev pub Puts : tree.BTreeMap Bytes Bytes → tree.BTreeMap Bytes Bytes → By
 Puts old new k v = (q : Bytes) → value_in new q ≡ (if eq_by_cmp key_cmp k q then v else value_in old q)
 
 -- what a request gets where these are the values
-abbrev pub answer_in : tree.BTreeMap Bytes Bytes → Option Op → Option Answer
-answer_in values None = None
-answer_in values (Some o) = Some (answer_at o (value_in values (key_of o)))
+abbrev pub answer_where : tree.BTreeMap Bytes Bytes → Option Op → Option Answer
+answer_where values None = None
+answer_where values (Some o) = Some (answer_at o (value_in values (key_of o)))
 
 -- what it gets after these records
 abbrev pub due_to : List Record → Option Op → Option Answer

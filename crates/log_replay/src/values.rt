@@ -4,7 +4,7 @@ ghost use Rattle.std.specs.BTreeMap.{IsUnchanged};
 ghost use Rattle.record_key.specs.Table.{key_of, answer_at as answer_to};
 ghost use Rattle.history.specs.Log.{request_of};
 ghost use Rattle.history.specs.Values.{value_with};
-ghost use Rattle.log_replay.specs.Kept.{value_in, answer_in, Puts};
+ghost use Rattle.log_replay.specs.Kept.{value_in, answer_where, Puts};
 
 use crate::effects::{answer_at, request, value_after};
 use history::Record;
@@ -14,7 +14,7 @@ use std::collections::BTreeMap;
 /// Does what the record asks for, and tells what that gets; none where it asks for nothing. Refused NoMemory, and
 /// unchanged then.
 pub fn follow(values: &mut BTreeMap<Key, Value>, next: &Record) -> Result<Option<Answer>, Refusal>
-    ensures answer { IfOk result (λ answer. answer ≡ answer_in values.old (request_of next.now)) }
+    ensures answer { IfOk result (λ answer. answer ≡ answer_where values.old (request_of next.now)) }
     ensures followed { OnOk result ((k : List ℕ) →
         value_in values.new k ≡ value_with k (request_of next.now) (value_in values.old k)) }
     ensures refused { IfErr result (λ refusal. refusal ≡ Refusal.NoMemory) }

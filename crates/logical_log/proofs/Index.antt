@@ -11,7 +11,7 @@ use Rattle.record_key.specs.declared.op.Answer.{Answer}
 use Rattle.record_key.specs.declared.op.Op.{Op}
 use Rattle.history.specs.Log.{record_at, answer_of, request_of, request_in}
 use Rattle.history.specs.Legal.{Fits, IsLegal}
-use Rattle.logical_log.specs.Index.{asks_nothing, first_place, index, noted, NamesWithin, answer_in, is_answered}
+use Rattle.logical_log.specs.Index.{asks_nothing, first_place, index, noted, NamesWithin, answer_held_by, is_answered}
 use Rattle.log_laws.proofs.Records.{record_new, record_old}
 use Rattle.log_laws.proofs.LegalLogs.{request_number, unanswered_next, answered_is_request}
 
@@ -52,7 +52,7 @@ Named _ i = ⊥
 -- what the index holds for a number tells whether it asks, and is answered
 pub data Told (log : List Record) (n p : ℕ) : Type 0 where
   awaits : p ≡ 0 → is_some (request_in (record_at log n)) ≡ true → answer_of log n ≡ None → Told log n p
-  answered : 0 < p → p ≤ length log → answer_of log n ≡ answer_in (record_at log p) → is_some (answer_of log n) ≡ true
+  answered : 0 < p → p ≤ length log → answer_of log n ≡ answer_held_by (record_at log p) → is_some (answer_of log n) ≡ true
       → Told log n p
   asks_none : p ≡ asks_nothing → request_in (record_at log n) ≡ None → answer_of log n ≡ None → Told log n p
 
@@ -122,7 +122,7 @@ module _ (r : Record) (log : List Record) where
             awaits at (ap (λ (q : Option Record). is_some (request_in q)) item ∙ asks) (answer ∙ none)
         | answered points bounded right there ↦
             answered points (omega (arith, bounded))
-            (answer ∙ right ∙ ap answer_in (sym (record_old r log p (λ e. omega (arith, e, bounded)))))
+            (answer ∙ right ∙ ap answer_held_by (sym (record_old r log p (λ e. omega (arith, e, bounded)))))
             (ap is_some answer ∙ there)
         | asks_none at none unanswered ↦ asks_none at (ap request_in item ∙ none) (answer ∙ unanswered)
       ]
@@ -153,7 +153,7 @@ told_named m a log n some named within same =
     let now : answer_of (is.Answer m a ∷ log) n ≡ Some a =
     ap (λ (b : Bool). cond b (Some a) (answer_of log n)) (eq-eqb n m e) in
     answered (omega (arith, place)) (omega (arith, place))
-    (now ∙ ap answer_in (sym (ap (record_at (is.Answer m a ∷ log)) place ∙ record_new (is.Answer m a) log)))
+    (now ∙ ap answer_held_by (sym (ap (record_at (is.Answer m a ∷ log)) place ∙ record_new (is.Answer m a) log)))
     (ap is_some now)
 
 told_by : (r : Record) (log : List Record) (n : ℕ) → Fits log r → 0 < n → Named r (n - 1)
@@ -195,16 +195,16 @@ index_past log n past = get_or_past (index log) (n - 1) asks_nothing (omega (ari
 
 -- the answer stands where the index says
 pub answer_found : (log : List Record) (n : ℕ) → IsLegal log → length log < 2 ^ 48 → 0 < n
-    → answer_of log n ≡ answer_in (record_at log (index_at log n))
+    → answer_of log n ≡ answer_held_by (record_at log (index_at log n))
 answer_found log n legal few some =
     let none : record_at log asks_nothing ≡ None = record_at-past log asks_nothing (omega (arith, few)) in
     elim (cases_lt (length log) n) [
       | inl past ↦ unanswered_past log n legal past
-          ∙ ap answer_in (sym (ap (record_at log) (index_past log n past) ∙ none))
+          ∙ ap answer_held_by (sym (ap (record_at log) (index_past log n past) ∙ none))
       | inr there ↦ elim (told log legal n some there) [
-        | awaits at asks unanswered ↦ unanswered ∙ ap answer_in (sym (ap (record_at log) at ∙ record_at-zero log))
+        | awaits at asks unanswered ↦ unanswered ∙ ap answer_held_by (sym (ap (record_at log) at ∙ record_at-zero log))
         | answered points bounded right is ↦ right
-        | asks_none at asks unanswered ↦ unanswered ∙ ap answer_in (sym (ap (record_at log) at ∙ none))
+        | asks_none at asks unanswered ↦ unanswered ∙ ap answer_held_by (sym (ap (record_at log) at ∙ none))
       ]
     ]
 

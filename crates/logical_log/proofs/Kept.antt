@@ -7,7 +7,7 @@ use Rattle.stable.specs.Crash.{BeginsWith}
 use Rattle.stable.specs.LogState.{LogState}
 use Rattle.history.specs.declared.record.Record.{Record}
 use Rattle.history.specs.Legal.{FitsCheckpoint, IsLatest}
-use Rattle.logical_log.specs.Kept.{FramesView, IsKept, with_record}
+use Rattle.logical_log.specs.Kept.{FramesView, IsKept, with_appended}
 use Rattle.logical_log.specs.LogView.{last_not_session}
 use Rattle.framed_log.specs.Beginning.{beginning}
 use Rattle.logical_log.specs.Spelled.{spelled}
@@ -53,7 +53,7 @@ kept_empty w device f p =
 -- a record is appended
 pub kept_longer : (w : Bool) (frames : FramesView) (stable answered last : ℕ) (r : Record) (n : ℕ)
     → IsKept w frames stable answered last → n ≡ length frames.records + 1
-    → IsKept w (with_record frames r) stable answered (last_with r n last)
+    → IsKept w (with_appended frames r) stable answered (last_with r n last)
 unfolding framed.spelled
 kept_longer w frames stable answered last r n h is = record {
   all_read = h.all_read;

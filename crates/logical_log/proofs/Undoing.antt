@@ -19,7 +19,7 @@ use Rattle.codec.specs.Fields.{IsKey, IsOp, IsAnswer}
 use Rattle.codec.specs.Records.{HasNumbers, IsRecord}
 use Rattle.codec.specs.Undoing.{AreAnsweredAt, StandsAt as Stands}
 use Rattle.log_laws.proofs.Undo.{op_record}
-use Rattle.logical_log.specs.Index.{answer_in}
+use Rattle.logical_log.specs.Index.{answer_held_by}
 use Rattle.logical_log.specs.Kept.{AreFrames}
 use Rattle.logical_log.specs.Spelled.{places, IsPlaceOf}
 use Rattle.logical_log.specs.Undoing.{inverse_by, inverse_at, comp_at}
@@ -53,7 +53,7 @@ op_placed log bytes left begins answers end h n i inverts none =
     none-some _ (sym (none_kept log bytes left begins answers end h n none) ∙ the_op.1)
 
 -- the Answer record that holds an answer
-answer_record : (found : Option Record) (a : Answer) → answer_in found ≡ Some a
+answer_record : (found : Option Record) (a : Answer) → answer_held_by found ≡ Some a
     → (of : ℕ) × (found ≡ Some (is.Answer of a))
 answer_record None a e = absurd (none-some a e)
 answer_record (Some (is.Answer of b)) a e = (of, ap (λ x. Some (is.Answer of x)) (same_Some b a e))

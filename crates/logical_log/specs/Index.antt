@@ -30,9 +30,9 @@ index [] = []
 index (r ∷ log) = noted r (length log + 1) (index log)
 
 -- what an Answer record holds
-abbrev pub answer_in : Option Record → Option Answer
-answer_in (Some (is.Answer of answer)) = Some answer
-answer_in _ = None
+abbrev pub answer_held_by : Option Record → Option Answer
+answer_held_by (Some (is.Answer of answer)) = Some answer
+answer_held_by _ = None
 
 -- the record of this number asks for nothing, or is answered
 abbrev pub is_answered : List Record → ℕ → Bool

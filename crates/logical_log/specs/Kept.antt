@@ -25,8 +25,8 @@ abbrev pub with_usage : FramesView → Usage → FramesView
 with_usage frames usage = record frames { device = record frames.device { usage = usage } }
 
 -- the frames with this record's after them, by one call of the device
-abbrev pub with_record : FramesView → Record → FramesView
-with_record frames r = record frames {
+abbrev pub with_appended : FramesView → Record → FramesView
+with_appended frames r = record frames {
   records = r ∷ frames.records;
   device = record frames.device {
     pending = frames.device.pending ++ frame (record_bytes r);

@@ -49,5 +49,5 @@ pub record IsAskedBy (log : List Record) (n : ℕ) (bytes : List ℕ) : Type 0 w
   pub short : length bytes ≤ 164
 
 -- of the bytes left after a log, the first are a record's frame, and the next place is after it
-abbrev pub IsNext : List Record → List ℕ → Record → ℕ → Type 0
-IsNext log left r next = IsThere Record record_bytes IsRecord (length (spelled log)) left r next
+abbrev pub StandsNext : List Record → List ℕ → Record → ℕ → Type 0
+StandsNext log left r next = IsThere Record record_bytes IsRecord (length (spelled log)) left r next

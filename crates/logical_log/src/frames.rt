@@ -16,10 +16,10 @@ ghost use Rattle.record_key.specs.declared.op.Op.{Op};
 ghost use Rattle.record_key.specs.declared.op.Answer.{Answer};
 ghost use Rattle.stable.specs.Device.{ForcesPart};
 ghost use Rattle.stable.specs.Usage.{is_due, called, failed, failing_in};
-ghost use Rattle.logical_log.specs.Kept.{with_record, with_usage};
+ghost use Rattle.logical_log.specs.Kept.{with_appended, with_usage};
 ghost use Rattle.framed_log.specs.Refused.{refused_use};
 ghost use Rattle.framed_log.specs.Beginning.{beginning};
-ghost use Rattle.logical_log.specs.Spelled.{spelled, AreRecords, IsAskedBy, IsNext, IsPlaceOf};
+ghost use Rattle.logical_log.specs.Spelled.{spelled, AreRecords, IsAskedBy, StandsNext, IsPlaceOf};
 ghost use Rattle.logical_log.specs.Undoing.{comp_at, inverse_at, next_at, IsToldOf};
 
 use crate::appended::Appended;
@@ -253,7 +253,7 @@ impl<D: LogDevice> Frames<D> {
     /// Puts what stands after the records that were read in place of another record, and tells where it ends.
     pub(crate) fn next(&self, found: &mut Record) -> FrameEnd
         ensures found { IfTaken (taken_at (length (spelled self.now.records)) result «found».new)
-            (IsNext self.now.records self.now.left) }
+            (StandsNext self.now.records self.now.left) }
         ensures only { (r : Record) (rest : List ℕ) → IsRecord r → self.now.left ≡ frame (record_bytes r) ++ rest
             → taken_at (length (spelled self.now.records)) result «found».new
             ≡ Taken.Record r (length (spelled self.now.records) + length (frame (record_bytes r))) }
@@ -264,7 +264,7 @@ impl<D: LogDevice> Frames<D> {
 
     /// Counts what stands next among the records that were read.
     pub(crate) fn accept(&mut self, accepted: &Record, next: usize) -> Result<(), AllocError>
-        requires stands { IsNext self.old.records self.old.left accepted.now next }
+        requires stands { StandsNext self.old.records self.old.left accepted.now next }
         requires fits { Fits self.old.records accepted.now }
         requires room { length self.old.records < 281474976710655 }
         ensures records { OnOk result (self.new.records ≡ accepted.now ∷ self.old.records) }
@@ -288,7 +288,7 @@ impl<D: LogDevice> Frames<D> {
         requires fits { Fits self.old.records (record_of appended.now) }
         requires numbers { HasNumbers (record_of appended.now) }
         requires room { length self.old.records < 281474976710655 }
-        ensures appended { OnOk result (self.new ≡ with_record self.old (record_of appended.now)) }
+        ensures appended { OnOk result (self.new ≡ with_appended self.old (record_of appended.now)) }
         ensures unchanged { IfErr result (λ refusal.
             self.new ≡ with_usage self.old (refused_use self.old.device.usage refusal)) }
         ensures cause { IfErr result (MayRefuse None) }
@@ -311,7 +311,7 @@ impl<D: LogDevice> Frames<D> {
         requires fits { Fits self.old.records (comp_at self.old.records txn undoes) }
         requires numbers { HasNumbers (comp_at self.old.records txn undoes) }
         requires room { length self.old.records < 281474976710655 }
-        ensures appended { OnOk result (self.new ≡ with_record self.old (comp_at self.old.records txn undoes)) }
+        ensures appended { OnOk result (self.new ≡ with_appended self.old (comp_at self.old.records txn undoes)) }
         ensures told { IfOk result (IsToldOf self.old.records undoes) }
         ensures unchanged { IfErr result (λ refusal.
             self.new ≡ with_usage self.old (refused_use self.old.device.usage refusal)) }

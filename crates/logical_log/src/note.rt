@@ -5,7 +5,7 @@ ghost use Rattle.std.specs.Prelude.{is_some};
 ghost use Rattle.history.specs.Log.{request_of};
 ghost use Rattle.record_key.specs.declared.op.Op.{Op};
 ghost use Rattle.logical_log.specs.Appended.{record_of};
-ghost use Rattle.logical_log.specs.Index.{noted, NamesWithin, answer_in, asks_nothing, first_place as place_first};
+ghost use Rattle.logical_log.specs.Index.{noted, NamesWithin, answer_held_by, asks_nothing, first_place as place_first};
 
 use crate::appended::Appended;
 use history::Record;
@@ -24,7 +24,7 @@ pub(crate) fn asks(item: &Record) -> bool
 
 /// The answer that an Answer record holds.
 pub(crate) fn answer_held(found: Option<Record>) -> Option<Answer>
-    ensures { result ≡ answer_in found }
+    ensures { result ≡ answer_held_by found }
 {
     match found {
         Some(Record::Answer { answer, .. }) => Some(answer),

@@ -6,7 +6,7 @@ ghost use Rattle.codec.specs.Records.{record_bytes};
 ghost use Rattle.stable.specs.Usage.{called};
 ghost use Rattle.logical_log.specs.Opening.{BeginsAs, IsLogOf, RefusesBytes, RefusesOpen, FailsDue, UsedToRead};
 ghost use Rattle.logical_log.specs.Replay.{IsIndex};
-ghost use Rattle.logical_log.specs.Spelled.{spelled, IsNext};
+ghost use Rattle.logical_log.specs.Spelled.{spelled, StandsNext};
 
 use crate::fits::fits;
 use crate::found::Found;
@@ -91,7 +91,7 @@ fn step<D: LogDevice>(
     found: &Record,
     next: usize,
 ) -> Result<(), Refusal>
-    requires stands { IsNext frames.old.records frames.old.left found.now next }
+    requires stands { StandsNext frames.old.records frames.old.left found.now next }
     requires index { IsIndex frames.old.records index.old }
     ensures records { OnOk result (frames.new.records ≡ found.now ∷ frames.old.records) }
     ensures left { OnOk result (frames.old.left ≡ frame (record_bytes found.now) ++ frames.new.left) }

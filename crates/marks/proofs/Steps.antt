@@ -7,7 +7,7 @@ use Rattle.atomic_table.specs.Table.{step, keeps, Allows, Enters, Splits, Joins}
 use Rattle.atomic_table.proofs.Lists.{at_set, at_snoc, set_again}
 use Rattle.marks.specs.declared.rule.Pair.{Pair}
 use Rattle.marks.specs.declared.rule.View.{View}
-use Rattle.marks.specs.Rule.{Marked, Mine, pair, words_of, UpTo, Fits, Holds, raiser_at_first, newcomer, sees, told, meeting, low_read, stable_read, stable_raised, low_raised, came, compared}
+use Rattle.marks.specs.Rule.{Marked, Mine, pair, words_of, UpTo, FitsSeat, Holds, raiser_at_first, newcomer, sees, told, meeting, low_read, stable_read, stable_raised, low_raised, came, compared}
 
 abbrev pair_of : List ℕ → Pair
 pair_of words = pair (get_or words 0 0) (get_or words 1 0)
@@ -41,14 +41,14 @@ moved s words number w = record { words = words; homes = s.homes; views = set s.
 -- the seat's new view fits words that are no less, and any other raiser finds them as they were
 moves : (s : Marked) (words : List ℕ) (number : ℕ) (w : View) → Holds s → length words ≡ 2
     → get_or words 1 0 ≤ get_or words 0 0
-    → UpTo (words_of s) (pair_of words) → Fits (pair_of words) number w
+    → UpTo (words_of s) (pair_of words) → FitsSeat (pair_of words) number w
     → ((other : ℕ) → other ≢ number → other ≡ 0 → pair_of words ≡ words_of s)
     → Holds (moved s words number w)
 moves s words number w h two ordered up fits others = record {
   two_words = two;
   ordered = ordered;
   each_fits = λ other u at. ⊎_elim
-      (λ (t : (other ≡ number) × (w ≡ u)). subst (λ (z : ℕ × View). Fits (pair_of words) z.0 z.1)
+      (λ (t : (other ≡ number) × (w ≡ u)). subst (λ (z : ℕ × View). FitsSeat (pair_of words) z.0 z.1)
       (λ i. (sym t.0 i, t.1 i)) fits)
       (λ (t : (other ≢ number) × (get_elem? s.views other ≡ some u)). let was = h.each_fits other u t.1 in record {
         reached = UpTo_trans u.seen (words_of s) (pair_of words) was.reached up;
@@ -77,11 +77,11 @@ raises_to s words number v h at raises two ordered up = let was = h.each_fits nu
 
 -- what a seat knows changes, and the words stay
 knows : (s : Marked) (words : List ℕ) (number : ℕ) (w : View) → Holds s → length words ≡ 2 → pair_of words ≡ words_of s
-    → Fits (words_of s) number w → Holds (moved s words number w)
+    → FitsSeat (words_of s) number w → Holds (moved s words number w)
 knows s words number w h two same fits = moves s words number w h two
     (subst (λ (p : Pair). p.low ≤ p.stable) (sym same) h.ordered)
     (UpTo_of_eq (words_of s) (pair_of words) (sym same))
-    (subst (λ (p : Pair). Fits p number w) (sym same) fits)
+    (subst (λ (p : Pair). FitsSeat p number w) (sym same) fits)
     (λ _ _ _. same)
 
 max_within : (a b c : ℕ) → a ≤ c → b ≤ c → max a b ≤ c
@@ -182,7 +182,7 @@ not_raising : IsTrue false → ⊥
 not_raising raises = cc
 
 -- a newcomer fits any words
-newcomer_fits : (words : Pair) (number : ℕ) → Fits words number newcomer
+newcomer_fits : (words : Pair) (number : ℕ) → FitsSeat words number newcomer
 newcomer_fits words number =
     record {
       reached = (zero-le, zero-le);
@@ -198,14 +198,14 @@ comes slots s h _ _ = (
     two_words = h.two_words;
     ordered = h.ordered;
     each_fits = λ number u at. ⊎_elim (h.each_fits number u)
-        (λ (is : newcomer ≡ u). subst (λ (v : View). Fits (words_of s) number v) is (newcomer_fits (words_of s) number))
+        (λ (is : newcomer ≡ u). subst (λ (v : View). FitsSeat (words_of s) number v) is (newcomer_fits (words_of s) number))
         (at_snoc s.views newcomer u number at);
   },
   refl,
 )
 
 -- a reader that is told what a seat has seen fits the words that the seat's view fits
-told_fits : (words : Pair) (number other : ℕ) (v : View) → Fits words number v → Fits words other (told v)
+told_fits : (words : Pair) (number other : ℕ) (v : View) → FitsSeat words number v → FitsSeat words other (told v)
 told_fits words number other v was =
     record {
       reached = was.reached;
@@ -221,7 +221,7 @@ tells number v s h at = record {
   each_fits = λ other u at'. ⊎_elim
       (λ (was : get_elem? (set s.views number v) other ≡ some u). h.each_fits other u
       (subst (λ (views : List View). get_elem? views other ≡ some u) (set_again s.views number v at) was))
-      (λ (is : told v ≡ u). subst (λ (x : View). Fits (words_of s) other x) is
+      (λ (is : told v ≡ u). subst (λ (x : View). FitsSeat (words_of s) other x) is
       (told_fits (words_of s) number other v (h.each_fits number v at)))
       (at_snoc (set s.views number v) (told v) u other at');
 }

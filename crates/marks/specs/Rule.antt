@@ -23,7 +23,7 @@ abbrev pub UpTo : Pair → Pair → Type 0
 UpTo p q = (p.stable ≤ q.stable) × (p.low ≤ q.low)
 
 -- no word is below what a seat has seen, and a raiser has seen just the words
-pub record Fits (words : Pair) (number : ℕ) (v : View) : Type 0 where
+pub record FitsSeat (words : Pair) (number : ℕ) (v : View) : Type 0 where
   pub reached : UpTo v.seen words
   pub met_reached : UpTo v.met v.seen
   pub raiser_first : IsTrue v.raises → number ≡ 0
@@ -33,7 +33,7 @@ pub record Fits (words : Pair) (number : ℕ) (v : View) : Type 0 where
 pub record Holds (s : Marked) : Type 0 where
   pub two_words : length s.words ≡ 2
   pub ordered : (words_of s).low ≤ (words_of s).stable
-  pub each_fits : (number : ℕ) (v : View) → get_elem? s.views number ≡ some v → Fits (words_of s) number v
+  pub each_fits : (number : ℕ) (v : View) → get_elem? s.views number ≡ some v → FitsSeat (words_of s) number v
 
 abbrev pub view : Bool → Pair → Pair → View
 view raises seen met = record { raises = raises; seen = seen; met = met }

@@ -27,7 +27,7 @@ use Rattle.system_txn.specs.Devices.{pages_of}
 use Rattle.system_txn.specs.Kept.{IsRecoverable}
 use Rattle.system_txn.specs.Checked.{IsChecked}
 use Rattle.dc_core.specs.declared.performance.Performance.{Performance}
-use Rattle.dc_core.specs.DcView.{DcView, captures_at, fresh as fresh_dc}
+use Rattle.dc_core.specs.DcView.{DcView, captures_at, fresh_dc}
 use Rattle.dc_core.specs.Serves.{runs}
 use Rattle.dc_core.specs.Tends.{may_merge}
 use Rattle.dc_core.specs.Kept.{IsDc}

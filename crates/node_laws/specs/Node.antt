@@ -15,7 +15,7 @@ use Rattle.codec.specs.declared.request.Request.TheVariants as asks
 use Rattle.codec.specs.declared.reply.Reply.{Reply}
 use Rattle.codec.specs.Replies.{has_rows}
 use Rattle.stable.specs.Usage.{unused}
-use Rattle.dc_core.specs.DcView.{DcView, fresh as fresh_dc}
+use Rattle.dc_core.specs.DcView.{DcView, fresh_tc as fresh_dc}
 use Rattle.dc_core.specs.Serves.{ServeGives, serve_refusal}
 use Rattle.dc_core.specs.Tends.{SplitsTo, MergesTo, TendsTo, FlushesTo}
 use Rattle.system_txn.specs.declared.devices.Device.{Device}
@@ -26,7 +26,7 @@ use Rattle.tc_core.specs.declared.told.UndoStep.TheVariants as undo
 use Rattle.tc_core.specs.declared.told.RecoverStep.TheVariants as recovery
 use Rattle.tc_core.specs.declared.phase.Phase.{Phase}
 use Rattle.tc_core.specs.declared.phase.Phase.TheVariants as phase
-use Rattle.tc_core.specs.TcView.{TcView, fresh}
+use Rattle.tc_core.specs.TcView.{TcView, fresh_tc}
 use Rattle.tc_core.specs.Causes.{resend_refusal, running_refusal}
 use Rattle.tc_core.specs.Calls.{ReconnectGives, BeginGives, ActGives, ReadGives, SaveGives, BackGives, RollbackGives, CommitGives, UndoGives, ForceGives, ResendGives, TellStableGives}
 use Rattle.logical_log.specs.LogView.{last_not_session}
@@ -63,7 +63,7 @@ joined tc dc = record { tc_up = true; tc = tc; dc_up = true; dc = dc; requests =
 
 -- nothing is logged, stored or sent
 abbrev pub fresh_node : NodeView
-fresh_node = joined (fresh unused) (fresh_dc unused unused)
+fresh_node = joined (fresh_tc unused) (fresh_dc unused unused)
 
 -- the transaction component is in this state; the rest stays
 abbrev pub with_tc : NodeView → TcView → NodeView

@@ -23,7 +23,7 @@ use Rattle.simulation.specs.Lasting.{HasCommitted}
 use Rattle.simulation.specs.View.{IsCommitAt, standing}
 use Rattle.node_laws.specs.Node.{NodeView}
 use Rattle.node_laws.specs.Source.{IsWaiting}
-use Rattle.node_laws.specs.Simulation.{Stands, IsSettled}
+use Rattle.node_laws.specs.Simulation.{NodeStandsFor, IsSettled}
 
 -- the leaf is honest for the log once what stands above the end that the next Connect would carry is taken back
 abbrev pub IsHonestBack : List Record → LeafView → Type 0
@@ -68,5 +68,5 @@ pub record Promises (w : NodeView) : Type 0 where
   pub honest : AreHonest w
   pub once : IsCompensatedOnce w.tc.log
   pub unrefused : IsNoneRefused w.tc.log
-  pub commits : (m : Machine) → Stands w m → CommitsStand w m
-  pub settled : (m : Machine) → Stands w m → IsSettled w → IsPlain w m
+  pub commits : (m : Machine) → NodeStandsFor w m → CommitsStand w m
+  pub settled : (m : Machine) → NodeStandsFor w m → IsSettled w → IsPlain w m

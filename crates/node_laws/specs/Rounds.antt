@@ -88,15 +88,15 @@ IsForced w =
 -- compensation that isn't stable,
 -- and logs a record where none is awaited; for an unanswered request to force the log where its record isn't stable,
 -- else to exchange it, as a read always is; to undo; to force what isn't stable
-abbrev pub IsNext : NodeView → Round → Type 0
-IsNext w round.RestartDc = w.dc_up ≡ false
-IsNext w round.RestartTc = (w.dc_up ≡ true) × (w.tc_up ≡ false)
-IsNext w round.Connect = AreUp w × IsApart w
-IsNext w round.Recover = AreUp w × IsRecovering w.tc.stable w.tc.phase × (w.dc.session ≡ w.tc.session)
-IsNext w round.Lose = IsUndoing w None
-IsNext w (round.Exchange t) = AreRunning w × (((n : ℕ) × IsDue w.tc t n × (n ≤ w.tc.stable)) ⊎ IsReader w.tc t)
-IsNext w (round.Undo t) = AreRunning w × IsRolling w.tc t
-IsNext w round.Force = (AreRunning w × IsForced w.tc) ⊎ ((n : ℕ) × IsUndoing w (Some n) × (w.tc.stable < n))
+abbrev pub IsNextRound : NodeView → Round → Type 0
+IsNextRound w round.RestartDc = w.dc_up ≡ false
+IsNextRound w round.RestartTc = (w.dc_up ≡ true) × (w.tc_up ≡ false)
+IsNextRound w round.Connect = AreUp w × IsApart w
+IsNextRound w round.Recover = AreUp w × IsRecovering w.tc.stable w.tc.phase × (w.dc.session ≡ w.tc.session)
+IsNextRound w round.Lose = IsUndoing w None
+IsNextRound w (round.Exchange t) = AreRunning w × (((n : ℕ) × IsDue w.tc t n × (n ≤ w.tc.stable)) ⊎ IsReader w.tc t)
+IsNextRound w (round.Undo t) = AreRunning w × IsRolling w.tc t
+IsNextRound w round.Force = (AreRunning w × IsForced w.tc) ⊎ ((n : ℕ) × IsUndoing w (Some n) × (w.tc.stable < n))
 
 -- the round of a transaction that waits for this record's answer, or for a read
 abbrev pub round_for : ℕ → ℕ → Option ℕ → Round
@@ -176,7 +176,7 @@ abbrev pub Rounds : NodeView → List Round → List Out → NodeView → Type 0
 Rounds w [] outs new = (outs ≡ []) × (new ≡ w)
 Rounds w (r ∷ rs) outs new =
     (mid : NodeView) × (first : List Out) × (rest : List Out) × (outs ≡ first ++ rest)
-    × IsNext w r × Plays w (events_of w r) first mid × Rounds mid rs rest new
+    × IsNextRound w r × Plays w (events_of w r) first mid × Rounds mid rs rest new
 
 -- these rounds were played
 pub record Played (old : NodeView) (before after : List Out) (last : NodeView) : Type 0 where
@@ -191,7 +191,7 @@ pub record Broken (old : NodeView) (before after : List Out) (r : Refusal) (new 
   pub between : List Out
   pub rounds : Played old before between last
   pub round : Round
-  pub next : IsNext last round
+  pub next : IsNextRound last round
   pub stopped : Stopped last (events_of last round) between after r new
   pub want : IsWant r
 
@@ -208,7 +208,7 @@ Settles old most before after (Ok true) new =
     × IsAtRest new × TellsOn old p.outs new
 Settles old most before after (Ok false) new =
     (p : Played old before after new) × (most ≡ Some (length p.rounds)) × (length p.rounds < most_rounds old.tc.log)
-    × ((r : Round) × IsNext new r) × TellsOn old p.outs new
+    × ((r : Round) × IsNextRound new r) × TellsOn old p.outs new
 Settles old most before after (Err r) new =
     (b : Broken old before after r new) × IsAllowed most (length b.rounds.rounds + 1)
     × (length b.rounds.rounds < most_rounds old.tc.log) × TellsOn old (b.rounds.outs ++ b.stopped.outs) new

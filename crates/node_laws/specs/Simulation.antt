@@ -59,8 +59,8 @@ clients w = record {
 }
 
 -- the node stands for a list machine: a relation, since the machine has a past that the log needn't keep
-abbrev pub Stands : NodeView → Machine → Type 0
-Stands w m = StandsFor (clients w.tc) m
+abbrev pub NodeStandsFor : NodeView → Machine → Type 0
+NodeStandsFor w m = StandsFor (clients w.tc) m
 
 -- who has committed is told so, in this order
 abbrev pub told_committed : List ℕ → List Line
@@ -161,10 +161,10 @@ Run m (e ∷ es) [] n = ⊥
 
 -- whatever machine the node stood for, the event with its output leads from it to one that it stands for then
 abbrev pub Leads : NodeView → Event → Out → NodeView → Type 0
-Leads old e o new = (m : Machine) → Stands old m → (n : Machine) × Happens m e o n × Stands new n
+Leads old e o new = (m : Machine) → NodeStandsFor old m → (n : Machine) × Happens m e o n × NodeStandsFor new n
 
 abbrev pub LeadsAll : NodeView → List Event → List Out → NodeView → Type 0
-LeadsAll old es os new = (m : Machine) → Stands old m → (n : Machine) × Run m es os n × Stands new n
+LeadsAll old es os new = (m : Machine) → NodeStandsFor old m → (n : Machine) × Run m es os n × NodeStandsFor new n
 
 -- nobody is being rolled back
 abbrev pub AreUnrolled : List OpenTxn → Type 0

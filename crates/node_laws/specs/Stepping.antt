@@ -6,7 +6,7 @@ use Rattle.node_laws.specs.declared.event.Out.{Out}
 use Rattle.node_laws.specs.declared.event.Out.TheVariants as out
 use Rattle.node_laws.specs.Node.{NodeView, StepsTo}
 use Rattle.node_laws.specs.Kept.{IsKept}
-use Rattle.node_laws.specs.Simulation.{Leads, Stands, told_committed}
+use Rattle.node_laws.specs.Simulation.{Leads, NodeStandsFor, told_committed}
 
 -- what an event does, with its output: what the components' contracts say; it leads each list machine that the node
 -- stood for to one that it stands for then; and what holds of a node at every moment holds after it. No state between
@@ -41,4 +41,4 @@ told_by_all (o ∷ os) = told_by o ++ told_by_all os
 -- whatever machine the node stood for, what clients were told by these outputs leads from it to one that it stands for
 -- then
 abbrev pub TellsOn : NodeView → List Out → NodeView → Type 0
-TellsOn old os new = (m : Machine) → Stands old m → (n : Machine) × Steps m (told_by_all os) n × Stands new n
+TellsOn old os new = (m : Machine) → NodeStandsFor old m → (n : Machine) × Steps m (told_by_all os) n × NodeStandsFor new n

@@ -7,7 +7,7 @@ use Rattle.record_key.specs.declared.refusal.Refusal.TheVariants as refusal
 use Rattle.node_laws.specs.Node.{NodeView, fresh_node}
 use Rattle.node_shell.specs.declared.line_result.LineResult.{LineResult}
 use Rattle.node_shell.specs.Labels.{AreSame, Bindings, unbound}
-use Rattle.node_shell.specs.Script.{Command, onto, first_fault, commands_of, lines_of}
+use Rattle.node_shell.specs.Script.{Command, onto, first_fault, commands_of, lines_from}
 use Rattle.node_shell.specs.Printed.{IsCut, refusal_line}
 use Rattle.node_shell.specs.Text.{ComesTo, Runs, goes_on, fails, is_cut, done, has_failed, status_after, result_text, WritesLine, WritesRun, WritesAlone, WritesText, WritesTextFrom, IsAlone, IsAllOf, IsCheckedFrom, IsTextAfterCheck, IsTextFrom, IsTextOf, IsUnread}
 use Rattle.node_shell.proofs.Printing.{appends_then}
@@ -157,11 +157,11 @@ unread continues view labels given old new r status (inr e) h =
 -- a script without a fault that was run
 pub ran : (continues : Bool) (view : NodeView) (labels : Bindings) (given old new : Option (List ℕ)) (script : List ℕ)
     (status : ℕ) → IsAllOf given script → first_fault script ≡ None
-    → WritesRun continues (commands_of (lines_of script)) view labels old new status
+    → WritesRun continues (commands_of (lines_from script)) view labels old new status
     → WritesTextFrom continues view labels given old new status
 ran continues view labels given old new script status all ok h =
     let P : Option ℕ → Type 0 = λ fault. IsCheckedFrom continues view labels fault script h.text status in
-    let led = led_run continues (commands_of (lines_of script)) view labels h.text status h.runs in
+    let led = led_run continues (commands_of (lines_from script)) view labels h.text status h.runs in
     record { text = h.text; appended = h.appended; is_text = inl (script, all, subst P (sym ok) led) }
 
 -- on a new node
@@ -174,7 +174,7 @@ on_new continues labels given old new status same h =
     checked : (fault : Option ℕ) (script : List ℕ) → IsCheckedFrom continues fresh_node labels fault script h.text status
         → IsTextAfterCheck continues fault script h.text status
     checked (Some line) script alone = alone
-    checked None script led = (labels, same, told_run continues (commands_of (lines_of script)) labels h.text status led)
+    checked None script led = (labels, same, told_run continues (commands_of (lines_from script)) labels h.text status led)
 
     told : ((script : List ℕ) × IsAllOf given script × IsTextFrom continues fresh_node labels script h.text status)
         ⊎ IsUnread h.text status

@@ -8,7 +8,7 @@ use Rattle.node_laws.specs.declared.event.Out.{Out}
 use Rattle.node_laws.specs.declared.event.Out.TheVariants as out
 use Rattle.node_laws.specs.Node.{NodeView, StepsTo, fresh_node}
 use Rattle.node_laws.specs.Kept.{IsKept}
-use Rattle.node_laws.specs.Simulation.{Stands, StepsIf}
+use Rattle.node_laws.specs.Simulation.{NodeStandsFor, StepsIf}
 use Rattle.node_laws.specs.Simulation as sim
 use Rattle.node_laws.specs.Stepping.{IsStep, TellsOn, told_by_all}
 use Rattle.node_laws.specs.Rounds.{Settles}
@@ -18,11 +18,11 @@ use Rattle.node_shell.specs.declared.line_result.LineResult.{LineResult}
 use Rattle.node_shell.specs.declared.line_result.LineResult.TheVariants as came
 use Rattle.node_shell.specs.Labels.{Bindings}
 use Rattle.node_shell.specs.Script.{Command, begins, writes, adds, gets, scans, calls, treats, steps, settles, tables, shows}
-use Rattle.node_shell.specs.Text.{ComesTo, StepsUnless, Runs, goes_on, fails, is_cut, done, lines_if, lines_unless, client_lines, run_lines, op_of, length_fault, keys_fault, event_of, leaf_event, IsLedRun, IsToldRun}
+use Rattle.node_shell.specs.Text.{ComesTo, StepsUnless, Runs, goes_on, fails, is_cut, done, lines_if, lines_unless, client_lines, run_lines, op_written, length_fault, keys_fault, event_of, leaf_event, IsLedRun, IsToldRun}
 
 -- whatever machine the node stood for, these lines lead from it to one that the node stands for then
 abbrev LeadsBy : NodeView → List Line → NodeView → Type 0
-LeadsBy old lines new = (m : Machine) → Stands old m → (n : Machine) × Steps m lines n × Stands new n
+LeadsBy old lines new = (m : Machine) → NodeStandsFor old m → (n : Machine) × Steps m lines n × NodeStandsFor new n
 
 -- an event
 by_lines : (m n : Machine) (lines : Option (List Line)) → StepsIf m lines n → Steps m (lines_if lines) n
@@ -43,7 +43,7 @@ refused_step w r k step =
 
 -- nothing
 stays : (old new : NodeView) → new ≡ old → LeadsBy old [] new
-stays old new same m stands = (m, refl, subst (λ w. Stands w m) (sym same) stands)
+stays old new same m stands = (m, refl, subst (λ w. NodeStandsFor w m) (sym same) stands)
 
 unless_leads : (fault : Option Refusal) (old new : NodeView) (e : Event) (o : Out) → StepsUnless fault old e o new
     → LeadsBy old (lines_unless fault e o) new
@@ -67,7 +67,7 @@ line_leads : (c : Command) (old : NodeView) (labels : Bindings) (r : LineResult)
 line_leads (begins label) old labels (came.Event o) new next h = step_leads old new event.Begin o h.0
 line_leads (begins label) old labels _ new next h = absurd h
 line_leads (writes label k key value) old labels (came.Event o) new next h =
-    unless_leads (length_fault key value) old new (event.Act (labels label) (op_of k key value)) o h.0
+    unless_leads (length_fault key value) old new (event.Act (labels label) (op_written k key value)) o h.0
 line_leads (writes label k key value) old labels _ new next h = absurd h.0
 line_leads (adds label key amount) old labels (came.Event o) new next h =
     unless_leads (keys_fault key None) old new _ o h.0
@@ -94,7 +94,7 @@ line_leads (shows p) old labels r new next h = stays old new h.1
 
 -- lines one after another
 run_leads : (continues : Bool) (cs : List Command) (view : NodeView) (labels : Bindings) (text : List ℕ) (status : ℕ)
-    (run : Runs continues cs view labels text status) (m : Machine) → Stands view m
+    (run : Runs continues cs view labels text status) (m : Machine) → NodeStandsFor view m
     → (n : Machine) × Steps m (run_lines continues cs view labels text status run) n
 run_leads _ _ _ _ _ _ (done view labels) m stands = (m, refl)
 run_leads continues _ _ _ _ _ (goes_on c cs view labels r after next text status comes on rest) m stands =

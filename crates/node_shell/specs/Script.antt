@@ -23,8 +23,8 @@ use Rattle.node_shell.specs.declared.line.Line.TheVariants as line
 use Rattle.node_shell.specs.Words.{words_of, label_in, text_in, value_in, end_in, number_in, amount_in}
 
 -- what stands between the ends of lines, which are byte 10. A last end leaves an empty line, which is skipped
-abbrev pub lines_of : List ℕ → List (List ℕ)
-lines_of script = slice_split (λ b. b == 10) script
+abbrev pub lines_from : List ℕ → List (List ℕ)
+lines_from script = slice_split (λ b. b == 10) script
 
 -- what a line asks for
 pub data Command : Type 0 where
@@ -236,11 +236,11 @@ fault_from n [] = None
 fault_from n (bytes ∷ rest) = if is_fault bytes then Some n else fault_from (n + 1) rest
 
 abbrev pub first_fault : List ℕ → Option ℕ
-first_fault script = fault_from 1 (lines_of script)
+first_fault script = fault_from 1 (lines_from script)
 
 -- what a line asks for: nothing where it is skipped
-abbrev pub asked : List ℕ → Option Command
-asked bytes = if is_skipped bytes then None else command_of (words_of bytes)
+abbrev pub asked_by : List ℕ → Option Command
+asked_by bytes = if is_skipped bytes then None else command_of (words_of bytes)
 
 abbrev pub onto : Option Command → List Command → List Command
 onto None commands = commands
@@ -249,7 +249,7 @@ onto (Some command) commands = command ∷ commands
 -- what the lines ask for, in order
 abbrev pub commands_of : List (List ℕ) → List Command
 commands_of [] = []
-commands_of (bytes ∷ rest) = onto (asked bytes) (commands_of rest)
+commands_of (bytes ∷ rest) = onto (asked_by bytes) (commands_of rest)
 
 -- the bytes of a value as a line gives it
 abbrev pub written_bytes : Written → List ℕ

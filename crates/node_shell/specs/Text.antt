@@ -13,7 +13,7 @@ use Rattle.node_laws.specs.declared.event.Out.{Out}
 use Rattle.node_laws.specs.declared.event.Out.TheVariants as out
 use Rattle.node_laws.specs.Node.{NodeView, fresh_node}
 use Rattle.node_laws.specs.Stepping.{IsStep, told_by_all}
-use Rattle.node_laws.specs.Simulation.{Stands}
+use Rattle.node_laws.specs.Simulation.{NodeStandsFor}
 use Rattle.node_laws.specs.Simulation as sim
 use Rattle.node_laws.specs.Rounds.{Settles}
 use Rattle.node_shell.specs.Labels.{Bindings, unbound, AreSame, IsBound}
@@ -25,7 +25,7 @@ use Rattle.node_shell.specs.declared.line.LeafCall.{LeafCall}
 use Rattle.node_shell.specs.declared.line.LeafCall.TheVariants as leaf_call
 use Rattle.node_shell.specs.declared.line_result.LineResult.{LineResult}
 use Rattle.node_shell.specs.declared.line_result.LineResult.TheVariants as came
-use Rattle.node_shell.specs.Script.{Command, begins, writes, adds, gets, scans, calls, treats, steps, settles, tables, shows, lines_of, first_fault, commands_of, onto}
+use Rattle.node_shell.specs.Script.{Command, begins, writes, adds, gets, scans, calls, treats, steps, settles, tables, shows, lines_from, first_fault, commands_of, onto}
 use Rattle.node_shell.specs.Ending.{is_failure, settled_text}
 use Rattle.node_shell.specs.Stored.{table_text}
 use Rattle.node_shell.specs.View.{records_of, part_text}
@@ -55,15 +55,15 @@ StepsUnless None before e output after = IsStep before e output after
 StepsUnless (Some r) before e output after = (output ≡ out.Refused r) × (after ≡ before)
 
 -- the operation of a write
-abbrev pub op_of : Kind → List ℕ → List ℕ → Op
-op_of kind.Insert key value = op.Insert key value
-op_of kind.Update key value = op.Update key value
-op_of kind.Upsert key value = op.Upsert key value
-op_of kind.Delete key value = op.Delete key
+abbrev pub op_written : Kind → List ℕ → List ℕ → Op
+op_written kind.Insert key value = op.Insert key value
+op_written kind.Update key value = op.Update key value
+op_written kind.Upsert key value = op.Upsert key value
+op_written kind.Delete key value = op.Delete key
 
 abbrev pub Writes : List ℕ → Kind → List ℕ → List ℕ → NodeView → Bindings → Out → NodeView → Type 0
 Writes label k key value before labels output after =
-    StepsUnless (length_fault key value) before (event.Act (labels label) (op_of k key value)) output after
+    StepsUnless (length_fault key value) before (event.Act (labels label) (op_written k key value)) output after
 
 abbrev pub is_empty : List ℕ → Bool
 is_empty [] = true
@@ -155,7 +155,7 @@ lines_unless (Some r) e output = []
 abbrev pub client_lines : Command → Bindings → LineResult → List Line
 client_lines (begins label) labels (came.Event output) = lines_if (sim.lines_of event.Begin output)
 client_lines (writes label k key value) labels (came.Event output) =
-    lines_unless (length_fault key value) (event.Act (labels label) (op_of k key value)) output
+    lines_unless (length_fault key value) (event.Act (labels label) (op_written k key value)) output
 client_lines (adds label key amount) labels (came.Event output) =
     lines_unless (keys_fault key None) (event.Act (labels label) (op.Add key amount)) output
 client_lines (gets label key) labels (came.Event output) =
@@ -282,7 +282,7 @@ pub record IsToldRun (continues : Bool) (commands : List Command) (view : NodeVi
 pub record IsLedRun (continues : Bool) (commands : List Command) (view : NodeView) (labels : Bindings)
     (text : List ℕ) (status : ℕ) : Type 0 where
   pub runs : Runs continues commands view labels text status
-  pub leads : (m : Machine) → Stands view m
+  pub leads : (m : Machine) → NodeStandsFor view m
       → (n : Machine) × Steps m (run_lines continues commands view labels text status runs) n
 
 -- the text of a script, where this is its first fault
@@ -290,7 +290,7 @@ abbrev pub IsTextAfterCheck : Bool → Option ℕ → List ℕ → List ℕ → 
 IsTextAfterCheck continues (Some line) script text status = IsAlone (refusal_line (refusal.BadScript line)) 2 text status
 IsTextAfterCheck continues None script text status =
     (labels : Bindings) × AreSame unbound labels
-    × IsToldRun continues (commands_of (lines_of script)) fresh_node labels text status
+    × IsToldRun continues (commands_of (lines_from script)) fresh_node labels text status
 
 abbrev pub IsTextOf : Bool → List ℕ → List ℕ → ℕ → Type 0
 IsTextOf continues script text status = IsTextAfterCheck continues (first_fault script) script text status
@@ -300,7 +300,7 @@ abbrev pub IsCheckedFrom : Bool → NodeView → Bindings → Option ℕ → Lis
 IsCheckedFrom continues view labels (Some line) script text status =
     IsAlone (refusal_line (refusal.BadScript line)) 2 text status
 IsCheckedFrom continues view labels None script text status =
-    IsLedRun continues (commands_of (lines_of script)) view labels text status
+    IsLedRun continues (commands_of (lines_from script)) view labels text status
 
 abbrev pub IsTextFrom : Bool → NodeView → Bindings → List ℕ → List ℕ → ℕ → Type 0
 IsTextFrom continues view labels script text status =

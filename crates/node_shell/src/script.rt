@@ -1,7 +1,7 @@
 //! The lines of a script.
 ghost use Rattle.std.specs.Prelude.{◌≡◌, ◌<◌, ◌==◌, ◌∷◌, length, IfSome, option_map, position};
 ghost use Rattle.std.specs.List.{slice_split};
-ghost use Rattle.node_shell.specs.Script.{is_skipped, is_fault, asked, first_fault, meaning, parts_left};
+ghost use Rattle.node_shell.specs.Script.{is_skipped, is_fault, asked_by, first_fault, meaning, parts_left};
 
 use crate::line::Line;
 use crate::parsing::parse;
@@ -34,7 +34,7 @@ pub fn is_skipped(line: &[u8]) -> bool
 
 /// What the line asks for: nothing where it is skipped or outside the grammar.
 pub fn request(line: &[u8]) -> Option<Line<'_>>
-    ensures { option_map meaning result ≡ asked line.now }
+    ensures { option_map meaning result ≡ asked_by line.now }
 {
     if is_skipped(line) { None } else { parse(line) }
 }

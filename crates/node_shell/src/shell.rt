@@ -9,7 +9,7 @@ ghost use Rattle.tc_core.specs.Causes.{begin_refusal};
 ghost use Rattle.node_laws.specs.Node.{fresh_node, if_up};
 ghost use Rattle.node_shell.specs.Labels.{number_in, unbound, AreSame};
 ghost use Rattle.node_shell.specs.Script.{meaning};
-ghost use Rattle.node_shell.specs.Text.{ComesTo, Begins, Writes, Adds, Gets, Scans, Treats, IsTable, IsSettling, event_of, leaf_event, op_of, length_fault, keys_fault};
+ghost use Rattle.node_shell.specs.Text.{ComesTo, Begins, Writes, Adds, Gets, Scans, Treats, IsTable, IsSettling, event_of, leaf_event, op_written, length_fault, keys_fault};
 
 use crate::label::{Label, Labels};
 use crate::line::{Call, Kind, LeafCall, Line};
@@ -196,7 +196,7 @@ impl<D: CrashLog, P: CrashPages> Shell<D, P> {
 
 /// The operation, unless the key or the value has a length that no node takes.
 fn op_of(kind: Kind, key: &[u8], value: &[u8]) -> Result<Op, Refusal>
-    ensures { MatchResult result (λ op. (length_fault key.now value.now ≡ None) × (op ≡ op_of kind key.now value.now))
+    ensures { MatchResult result (λ op. (length_fault key.now value.now ≡ None) × (op ≡ op_written kind key.now value.now))
         (λ refusal. length_fault key.now value.now ≡ Some refusal) }
 {
     let key = Key::new(key)?;

@@ -8,7 +8,7 @@ ghost use Rattle.btree.specs.Leaves.{rows_of};
 ghost use Rattle.system_txn.specs.Kept.{IsRecoverable};
 ghost use Rattle.codec.specs.Parted.{request_to};
 ghost use Rattle.codec.specs.Requests.{HasRequestNumbers};
-ghost use Rattle.dc_core.specs.DcView.{fresh, leaves, value_at};
+ghost use Rattle.dc_core.specs.DcView.{fresh_dc, leaves, value_at};
 ghost use Rattle.dc_core.specs.Kept.{IsDc};
 ghost use Rattle.dc_core.specs.Performing.{reply_if};
 ghost use Rattle.dc_core.specs.Serves.{MayAsk, after_redo_refusal};
@@ -55,7 +55,7 @@ impl<D: CrashLog, P: CrashPages> Model for DcSide<D, P> {
 impl DcSide<MemLog, MemPages> {
     /// One that runs, of no records, and has taken no session. Refused NoMemory.
     pub fn new(alloc: Global) -> Result<DcSide, Refusal>
-        ensures fresh { IfOk result (λ side. side ≡ record { up = true; dc = fresh unused unused }) }
+        ensures fresh { IfOk result (λ side. side ≡ record { up = true; dc = fresh_dc unused unused }) }
         ensures memory { IfErr result (λ refusal. refusal ≡ Refusal.NoMemory) }
     {
         let dc = Dc::new(alloc, MemLog::new(alloc), MemPages::new(alloc))?;

@@ -9,7 +9,7 @@ ghost use Rattle.tc_core.specs.Kept.{IsTc};
 ghost use Rattle.tc_core.specs.Replies.{is_of_another};
 ghost use Rattle.tc_core.specs.LowWater.{IsGreatestAnnounced};
 ghost use Rattle.tc_core.specs.Recovery.{SendsOp};
-ghost use Rattle.tc_core.specs.TcView.{TcView, fresh};
+ghost use Rattle.tc_core.specs.TcView.{TcView, fresh_tc};
 ghost use Rattle.node_laws.specs.Halves.{of_tc, moves, TcLeads, TcCalls, TcTakes};
 
 use crate::put::put;
@@ -47,7 +47,7 @@ impl<D: CrashLog> Model for TcSide<D> {
 impl TcSide<MemLog> {
     /// One that runs, with an empty log and no session.
     pub fn new(alloc: Global) -> TcSide
-        ensures { result ≡ record { up = true; tc = fresh unused } }
+        ensures { result ≡ record { up = true; tc = fresh_tc unused } }
     {
         TcSide::of(alloc, Tc::new(alloc, MemLog::new(alloc)))
     }

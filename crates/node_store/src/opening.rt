@@ -1,12 +1,12 @@
 //! A node is opened on a log.
 ghost use Rattle.std.specs.Prelude.{◌≡◌, [], IfOk, IfErr};
 ghost use Rattle.std.specs.FinMap as map;
-ghost use Rattle.dc_core.specs.DcView.{fresh};
+ghost use Rattle.dc_core.specs.DcView.{fresh_dc};
 ghost use Rattle.simulation.specs.Reading.{machine_read};
 ghost use Rattle.stable.specs.Usage.{called as called_once};
 ghost use Rattle.tc_core.specs.Opening.{IsOpened};
 ghost use Rattle.node_laws.specs.Node.{joined};
-ghost use Rattle.node_laws.specs.Simulation.{Stands};
+ghost use Rattle.node_laws.specs.Simulation.{NodeStandsFor};
 ghost use Rattle.node_store.specs.Opening.{IsFit, IsRefusedFor};
 
 use crate::judging::judge;
@@ -36,8 +36,8 @@ where
     requires no_tree { (D.forced tree ≡ []) × (D.pending tree ≡ []) }
     requires no_pages { P.pages pages ≡ map.empty }
     ensures opened { IfOk result (λ world. IsOpened (D.forced log) (D.usage log) world.tc) }
-    ensures node { IfOk result (λ world. world ≡ joined world.tc (fresh (D.usage tree) (P.usage pages))) }
-    ensures stands { IfOk result (λ world. Stands world (machine_read world.tc.log)) }
+    ensures node { IfOk result (λ world. world ≡ joined world.tc (fresh_dc (D.usage tree) (P.usage pages))) }
+    ensures stands { IfOk result (λ world. NodeStandsFor world (machine_read world.tc.log)) }
     ensures refused { IfErr result (λ left. IsRefusedFor (D.forced log) left.cause) }
     ensures forced { IfErr result (λ left. D.forced left.log ≡ D.forced log) }
     ensures none_pending { IfErr result (λ left. D.pending left.log ≡ []) }

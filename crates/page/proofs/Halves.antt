@@ -20,7 +20,7 @@ use Rattle.record_key.proofs.Truths.{is_lt-Less, as_T, from_T, and_first, and_se
 use Rattle.record_key.proofs.Tables.{same_table}
 use Rattle.record_key.proofs.Rows.{get-table_of, table_of_entries, own_rows}
 use Rattle.ab_lsn.specs.AbLsn.{AbLsnView, stands_in}
-use Rattle.ab_lsn.specs.Parting.{is_under, is_from, placed_above, placed_all, joined}
+use Rattle.ab_lsn.specs.Parting.{is_under, is_from, placed_above, placed_all, joined_with}
 use Rattle.page.proofs.Performing.{all_placed}
 use Rattle.page.proofs.Raising.{all_raised}
 
@@ -50,7 +50,7 @@ all_put P low (f ∷ fs) es all more =
     (either_all P (nat_lt low f.number && not (stands_in es f.number)) _ es (all_placed P f es all.0 more) more)
 
 pub all_joined : (P : Entry → Type 0) (v w : AbLsnView) → AllByRecursion P v.entries → AllByRecursion P w.entries
-    → AllByRecursion P (joined v w).entries
+    → AllByRecursion P (joined_with v w).entries
 all_joined P v w all more = all_put P _ w.entries _ more (all_raised P v w.low all)
 
 -- ---- keys and fences

@@ -15,7 +15,7 @@ use Rattle.history.specs.Honest.{numbered_on, IsHonestAt}
 use Rattle.log_laws.proofs.Records.{record_before, length_before}
 use Rattle.log_laws.proofs.LegalLogs.{request_number}
 use Rattle.record_key.specs.declared.entry.Entry.{Entry}
-use Rattle.ab_lsn.specs.AbLsn.{captures, placed}
+use Rattle.ab_lsn.specs.AbLsn.{captures, with_entry}
 use Rattle.ab_lsn.proofs.Capturing.{noted_captures}
 use Rattle.page.specs.Leaf.{LeafView, performed}
 use Rattle.page.specs.Honest.{IsSavedRight, IsHonestLeaf, IsNextOn}
@@ -34,10 +34,10 @@ kept_pair P true e f es fs here new all more = (here, more)
 kept_pair P false e f es fs here new all more = (new, (here, all))
 
 pub all_placed : (P : Entry → Type 0) (f : Entry) (es : List Entry) → P f → AllByRecursion P es
-    → AllByRecursion P (placed f es)
+    → AllByRecursion P (with_entry f es)
 all_placed P f [] new all = (new, tt)
 all_placed P f (e ∷ es) new all =
-    kept_pair P (nat_lt e.number f.number) e f es (placed f es) all.0 new all.1 (all_placed P f es new all.1)
+    kept_pair P (nat_lt e.number f.number) e f es (with_entry f es) all.0 new all.1 (all_placed P f es new all.1)
 
 module _ (log : List Record) (leaf : LeafView) (n : ℕ) (o : Op) (honest : IsHonestLeaf log leaf)
     (next : IsNextOn log leaf n o) where

@@ -6,7 +6,7 @@ use Rattle.record_key.specs.Table.{Bytes, Table, key_of, answer_in, after}
 use Rattle.record_key.specs.Order.{is_between}
 use Rattle.record_key.specs.Rows.{LieBetween}
 use Rattle.record_key.specs.Entries.{RiseAbove, StandBetween}
-use Rattle.ab_lsn.specs.AbLsn.{AbLsnView, blank, noted, raised}
+use Rattle.ab_lsn.specs.AbLsn.{AbLsnView, none_captured, noted, raised}
 
 -- its number, the last system transaction that changed it, its fences, its records, and what it has captured
 pub record LeafView : Type 0 where
@@ -29,7 +29,7 @@ pub record IsLeaf (leaf : LeafView) : Type 0 where
 
 -- the first leaf: no fences, no records, nothing captured
 abbrev pub first : LeafView
-first = record { id = 1; last = 0; low_fence = None; high_fence = None; rows = map.empty; ab = blank }
+first = record { id = 1; last = 0; low_fence = None; high_fence = None; rows = map.empty; ab = none_captured }
 
 -- the leaf once a new number is performed
 abbrev pub performed : LeafView → ℕ → Op → LeafView

@@ -4,7 +4,7 @@ use Rattle.std.specs.FinMap as map
 use Rattle.record_key.specs.Table.{Bytes}
 use Rattle.record_key.specs.Order.{starts_at_most, ends_above}
 use Rattle.record_key.specs.Rows.{table_of}
-use Rattle.ab_lsn.specs.Parting.{is_under, is_from, cut_under, cut_from, joined}
+use Rattle.ab_lsn.specs.Parting.{is_under, is_from, cut_under, cut_from, joined_with}
 use Rattle.page.specs.Leaf.{LeafView}
 
 -- what stands at or above the key, as a leaf of its own with this number
@@ -42,5 +42,5 @@ joined_of left right d = record left {
   last = d;
   high_fence = right.high_fence;
   rows = table_of (map.entries left.rows ++ map.entries right.rows);
-  ab = joined left.ab right.ab;
+  ab = joined_with left.ab right.ab;
 }

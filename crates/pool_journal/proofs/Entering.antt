@@ -15,7 +15,7 @@ use Rattle.node_laws.specs.Messages.{message_at}
 use Rattle.pool_journal.specs.declared.place.Place.{Place}
 use Rattle.pool_journal.specs.declared.step.Step.{Step}
 use Rattle.pool_journal.specs.Kept.{is_dc, calls_of, IsLine, PlaceKept, PlacesKept, LinesKept, place_after, place_heard, EntersTc, EntersDc, IsInRun, IsSentBy}
-use Rattle.pool_journal.specs.Sessions.{IsCalled, LeavesLive, Call, Part, calls_as, calls, called, no_part, line_of, pending, part_of, awaits, called_as, is_pending, live_after, IsClosed, IsLeft, IsSameCall}
+use Rattle.pool_journal.specs.Sessions.{IsCalled, LeavesLive, SessionCall, Part, calls_as, calls, called, no_part, line_of, pending, part_of, awaits, called_as, is_pending, live_after, IsClosed, IsLeft, IsSameCall}
 use Rattle.pool_journal.specs.Errands.{FailsSince}
 use Rattle.pool_journal.specs.declared.failure.Failure.{Failure}
 use Rattle.pool_journal.specs.declared.news.News.{News}
@@ -23,7 +23,7 @@ use Rattle.pool_journal.specs.declared.news.News.TheVariants as news
 use Rattle.pool_journal.specs.Callers.{Awaits, HasLine, IsToldBy, IsUntold, IsNews}
 use Rattle.pool_journal.specs.Waiting.{IsNewsOf}
 use Rattle.pool_journal.specs.Slots.{Slot, step_at, steps, asks, gives, through, seen, Shown, IsShown, last_of}
-use Rattle.pool_journal.specs.Steps.{is_tc, requests, replies, TcState, DcState, Start, IsStart, GivesTc, GivesDc, IsRun}
+use Rattle.pool_journal.specs.Steps.{is_tc, requests, replies, TcState, DcState, Start, IsStart, GivesTc, GivesDc, RunsFrom}
 use Rattle.pool_journal.specs.Views.{View, Sees}
 use Rattle.pool_journal.proofs.Lists.{all_snoc, all_map, kept_at, last_snoc, filter_snoc, request_of, reply_of}
 use Rattle.pool_journal.proofs.Along.{tc_on, dc_on, tc_entered, dc_entered, runs, in_run, spelled}
@@ -200,7 +200,7 @@ module _ (start : Start) (row : Shelves) (names : ℕ → ℕ) where
       (kept_at (Shown row) gives tokens n p k.shown at', reply_of tokens n p at')
 
   pub lines_run : (tokens asked given : List Slot) (tc dc : View) → LinesKept start row names tokens asked given tc dc
-      → IsRun start (steps tokens)
+      → RunsFrom start (steps tokens)
   lines_run tokens asked given tc dc k =
       (_, runs start (steps tokens) k.gives_tc.0 k.gives_dc.0 k.starts k.gives_tc.1 k.gives_dc.1)
 
@@ -367,12 +367,12 @@ module _ {J : Type 0} (row : Shelves) (names : ℕ → ℕ) where
       not_pending true = refl
       not_pending false = refl
 
-      has_line : (old new : Option Call) (l : Line) → IsSameCall old new → line_of new ≡ Some l → HasLine old new l
+      has_line : (old new : Option SessionCall) (l : Line) → IsSameCall old new → line_of new ≡ Some l → HasLine old new l
       has_line None new l same is = absurd (cc (sym (ap line_of same) ∙ is))
       has_line (Some c) new l same is =
           same.1 ∙ ap (λ (o : Option Line). Some (called_as c.event c.out o)) (sym (ap line_of same.1) ∙ is)
 
-      idle : (new : Option Call) (l : Line) → line_of new ≡ Some l → pending new ≡ false
+      idle : (new : Option SessionCall) (l : Line) → line_of new ≡ Some l → pending new ≡ false
       idle None l is = refl
       idle (Some c) l is =
           ap (λ (o : Option Line). awaits (called_as c.event c.out o)) is ∙ not_pending (is_pending c.out)
@@ -387,7 +387,7 @@ module _ {J : Type 0} (row : Shelves) (names : ℕ → ℕ) where
             (IsLine (line_of (part_of s es).latest)) is k.line);
       }
     where
-      untold : (old new : Option Call) → IsSameCall old new → line_of old ≡ None → line_of new ≡ None → new ≡ old
+      untold : (old new : Option SessionCall) → IsSameCall old new → line_of old ≡ None → line_of new ≡ None → new ≡ old
       untold None new same a b = same
       untold (Some c) new same a b =
           same.1 ∙ ap (λ (o : Option Line). Some (called_as c.event c.out o)) (sym (ap line_of same.1) ∙ b ∙ sym a)

@@ -12,7 +12,7 @@ use Rattle.pool_journal.specs.declared.place.Place.{Place}
 use Rattle.pool_journal.specs.declared.step.Step.{Step}
 use Rattle.pool_journal.specs.Errands.{EndsWithFailure, FailsSince, errand_after, errand_of, fails}
 use Rattle.pool_journal.specs.Kept.{calls_of, PlaceKept, IsLine, later, with_told, place_heard, place_worked}
-use Rattle.pool_journal.specs.Sessions.{Call, Part, with_latest, calls, line_to, line_for, is_pending, awaits, told, told_of, pending, line_of, live_after, ends, called_as, hears, worked, cut, cuts_off, heard, called, after, part_after, no_part, part_of, IsClosed, IsLeft, IsSameCall}
+use Rattle.pool_journal.specs.Sessions.{SessionCall, Part, with_latest, calls, line_to, line_for, is_pending, awaits, told, told_of, pending, line_of, live_after, ends, called_as, hears, worked, cut, cuts_off, heard, called, next_part, part_after, no_part, part_of, IsClosed, IsLeft, IsSameCall}
 use Rattle.pool_journal.specs.Callers.{IsGrown}
 use Rattle.pool_journal.specs.Slots.{Slot, Shown, IsShown}
 use Rattle.pool_journal.specs.Views.{View, Sees}
@@ -22,31 +22,31 @@ use Rattle.std.proofs.lemmas.List.{append-nil}
 use Rattle.std.proofs.Common.{append_assoc}
 
 pub part_snoc : (s : ℕ) (part : Part) (es : List Step) (e : Step)
-    → part_after s part (es ++ e ∷ []) ≡ after s (part_after s part es) e
+    → part_after s part (es ++ e ∷ []) ≡ next_part s (part_after s part es) e
 part_snoc s part [] e = refl
-part_snoc s part (x ∷ es) e = part_snoc s (after s part x) es e
+part_snoc s part (x ∷ es) e = part_snoc s (next_part s part x) es e
 
 pub part_append : (s : ℕ) (part : Part) (es fs : List Step)
     → part_after s part (es ++ fs) ≡ part_after s (part_after s part es) fs
 part_append s part [] fs = refl
-part_append s part (x ∷ es) fs = part_append s (after s part x) es fs
+part_append s part (x ∷ es) fs = part_append s (next_part s part x) es fs
 
-pub after_heard : (s : ℕ) (part : Part) (e : Step) → calls_of s e ≡ false → after s part e ≡ heard part e.event e.out
+pub after_heard : (s : ℕ) (part : Part) (e : Step) → calls_of s e ≡ false → next_part s part e ≡ heard part e.event e.out
 after_heard s part e is =
     ap (λ (b : Bool). cond b (called part e.event e.out) (heard part e.event e.out)) is
 
-pub after_called : (s : ℕ) (part : Part) (e : Step) → calls_of s e ≡ true → after s part e ≡ called part e.event e.out
+pub after_called : (s : ℕ) (part : Part) (e : Step) → calls_of s e ≡ true → next_part s part e ≡ called part e.event e.out
 after_called s part e is =
     ap (λ (b : Bool). cond b (called part e.event e.out) (heard part e.event e.out)) is
 
 -- ---- steps that are no calls of the session
 
-told_same : (c : Call) (line : Line) → awaits c ≡ false → told c line ≡ c
+told_same : (c : SessionCall) (line : Line) → awaits c ≡ false → told c line ≡ c
 told_same c line is = λ i. called_as c.event c.out (cond (is i) (Some line) c.line)
 
-told_of_same : (o : Option Call) (line : Line) → pending o ≡ false → told_of o line ≡ o
+told_of_same : (o : Option SessionCall) (line : Line) → pending o ≡ false → told_of o line ≡ o
 told_of_same None line is = refl
-told_of_same (Some c) line is = ap (λ (d : Call). Some d) (told_same c line is)
+told_of_same (Some c) line is = ap (λ (d : SessionCall). Some d) (told_same c line is)
 
 left_on : (old mid new : Option ℕ) → IsLeft old mid → IsLeft mid new → IsLeft old new
 left_on old mid new a (inr gone) = inr gone
@@ -93,9 +93,9 @@ stays : (s : ℕ) (part : Part) (es : List Step) → AllByRecursion (λ e. calls
     → Stays part (part_after s part es)
 stays s part [] n is = record { before = refl; latest = refl; closed = is; live = inl refl }
 stays s part (e ∷ es) n is =
-    let one : Stays part (after s part e) =
+    let one : Stays part (next_part s part e) =
     subst (Stays part) (sym (after_heard s part e n.0)) (heard_at part (cuts_off e.event) e.event e.out is) in
-    on part (after s part e) _ one (stays s (after s part e) es n.1 one.closed)
+    on part (next_part s part e) _ one (stays s (next_part s part e) es n.1 one.closed)
 
 -- what a session has seen to be closed is still so, and no other transaction is its own
 pub closed_on : (s : ℕ) (before now : List Step) → Sees (calls_of s) before now → IsClosed (part_of s before)
@@ -123,14 +123,14 @@ ended_hears : (part : Part) (line : Option Line) → EndsAll part → EndsAll (h
 ended_hears part None all = all
 ended_hears part (Some heard) all = at part.latest (awaits_of part.latest) refl all
   where
-    awaits_of : Option Call → Bool
+    awaits_of : Option SessionCall → Bool
     awaits_of o = pending o
 
     gone : (b : Bool) (live : Option ℕ) → live ≡ None → cond b None live ≡ None
     gone true live is = refl
     gone false live is = is
 
-    at : (o : Option Call) (b : Bool) → pending o ≡ b
+    at : (o : Option SessionCall) (b : Bool) → pending o ≡ b
         → ((l : Line) → line_of o ≡ Some l → ends l ≡ true → part.live ≡ None)
         → (l : Line) → line_of (told_of o heard) ≡ Some l → ends l ≡ true → cond (ends heard) None part.live ≡ None
     at None b is was l has end = absurd (cc (has))
@@ -146,7 +146,7 @@ ended_heard : (part : Part) (b : Bool) (e : Event) (o : Out) → EndsAll part
 ended_heard part true e o all = λ l has end. refl
 ended_heard part false e o all = ended_hears (worked part e o) (line_for part.live o) all
 
-ended_after : (s : ℕ) (part : Part) (e : Step) → EndsAll part → EndsAll (after s part e)
+ended_after : (s : ℕ) (part : Part) (e : Step) → EndsAll part → EndsAll (next_part s part e)
 ended_after s part e all = at (calls_of s e)
   where
     at : (b : Bool) → EndsAll (cond b (called part e.event e.out) (heard part e.event e.out))
@@ -155,7 +155,7 @@ ended_after s part e all = at (calls_of s e)
 
 ended_all : (s : ℕ) (part : Part) (es : List Step) → EndsAll part → EndsAll (part_after s part es)
 ended_all s part [] all = all
-ended_all s part (e ∷ es) all = ended_all s (after s part e) es (ended_after s part e all)
+ended_all s part (e ∷ es) all = ended_all s (next_part s part e) es (ended_after s part e all)
 
 -- once it was told so
 pub ended : (s : ℕ) (es : List Step) (l : Line) → line_of (part_of s es).latest ≡ Some l → ends l ≡ true
@@ -168,18 +168,18 @@ record Grows (old new : Part) : Type 0 where
   live : IsLeft old.live new.live
   failures : FailsSince old.failures new.failures None
 
-same_call : (o : Option Call) → IsSameCall o o
+same_call : (o : Option SessionCall) → IsSameCall o o
 same_call None = refl
 same_call (Some c) = (c.line, refl)
 
-told_same_call : (o : Option Call) (line : Line) → IsSameCall o (told_of o line)
+told_same_call : (o : Option SessionCall) (line : Line) → IsSameCall o (told_of o line)
 told_same_call None line = refl
 told_same_call (Some c) line = (cond (awaits c) (Some line) c.line, refl)
 
-same_call_on : (a b c : Option Call) → IsSameCall a b → IsSameCall b c → IsSameCall a c
-same_call_on None b c is m = subst (λ (o : Option Call). IsSameCall o c) is m
+same_call_on : (a b c : Option SessionCall) → IsSameCall a b → IsSameCall b c → IsSameCall a c
+same_call_on None b c is m = subst (λ (o : Option SessionCall). IsSameCall o c) is m
 same_call_on (Some x) b c is m =
-    let n : IsSameCall (Some (called_as x.event x.out is.0)) c = subst (λ (o : Option Call). IsSameCall o c) is.1 m in
+    let n : IsSameCall (Some (called_as x.event x.out is.0)) c = subst (λ (o : Option SessionCall). IsSameCall o c) is.1 m in
     (n.0, n.1)
 
 hears_grows : (part : Part) (line : Option Line) → Grows part (hears part line)
@@ -213,14 +213,14 @@ grows : (s : ℕ) (part : Part) (es : List Step) → AllByRecursion (λ e. calls
 grows s part [] n =
     record { before = refl; latest = same_call part.latest; live = inl refl; failures = none_since part.failures }
 grows s part (e ∷ es) n =
-    let one : Grows part (after s part e) =
+    let one : Grows part (next_part s part e) =
     subst (Grows part) (sym (after_heard s part e n.0)) (grows_at part (cuts_off e.event) e.event e.out) in
-    let rest = grows s (after s part e) es n.1 in
+    let rest = grows s (next_part s part e) es n.1 in
     record {
       before = rest.before ∙ one.before;
-      latest = same_call_on part.latest (after s part e).latest _ one.latest rest.latest;
-      live = left_on part.live (after s part e).live _ one.live rest.live;
-      failures = since_on part.failures (after s part e).failures _ one.failures rest.failures;
+      latest = same_call_on part.latest (next_part s part e).latest _ one.latest rest.latest;
+      live = left_on part.live (next_part s part e).live _ one.live rest.live;
+      failures = since_on part.failures (next_part s part e).failures _ one.failures rest.failures;
     }
 
 -- the session's calls are those that it knows of, and of the latest more may have been told
@@ -248,7 +248,7 @@ not_pending : (b : Bool) → cond b false false ≡ false
 not_pending true = refl
 not_pending false = refl
 
-told_awaits : (c : Call) (l : Line) → awaits (told c l) ≡ false
+told_awaits : (c : SessionCall) (l : Line) → awaits (told c l) ≡ false
 told_awaits c l = told_awaits_at (awaits c) refl
   where
     told_awaits_at : (b : Bool) → awaits c ≡ b → awaits (called_as c.event c.out (cond (awaits c) (Some l) c.line)) ≡ false
@@ -257,7 +257,7 @@ told_awaits c l = told_awaits_at (awaits c) refl
     told_awaits_at false is =
         ap (λ (x : Bool). awaits (called_as c.event c.out (cond x (Some l) c.line))) is ∙ is
 
-told_line : (token : Slot) (o : Option Call) (l : Line) (was : Option Slot) (t : ℕ) → line_to t token.value.step.value.out ≡ Some l
+told_line : (token : Slot) (o : Option SessionCall) (l : Line) (was : Option Slot) (t : ℕ) → line_to t token.value.step.value.out ≡ Some l
     → IsLine (line_of o) was → (b : Bool) → pending o ≡ b → IsLine (line_of (told_of o l)) (cond b (Some token) was)
 told_line token None l was t tells is true aw = absurd (cc (aw))
 told_line token None l was t tells is false aw = is
@@ -266,7 +266,7 @@ told_line token (Some c) l was t tells is true aw =
 told_line token (Some c) l was t tells is false aw =
     subst (λ (line : Option Line). IsLine line was) (sym (ap (λ (b : Bool). cond b (Some l) c.line) aw)) is
 
-told_pending : (o : Option Call) (l : Line) → pending (told_of o l) ≡ false
+told_pending : (o : Option SessionCall) (l : Line) → pending (told_of o l) ≡ false
 told_pending None l = refl
 told_pending (Some c) l = told_awaits c l
 

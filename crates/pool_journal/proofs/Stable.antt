@@ -13,7 +13,7 @@ use Rattle.codec.specs.declared.request.Request.TheVariants as asks
 use Rattle.codec.specs.declared.reply.Reply.{Reply}
 use Rattle.codec.specs.declared.reply.Reply.TheVariants as says
 use Rattle.stable.specs.Usage.{unused}
-use Rattle.dc_core.specs.DcView.{fresh}
+use Rattle.dc_core.specs.DcView.{fresh_dc}
 use Rattle.tc_core.specs.declared.open_txn.OpenTxn.{OpenTxn}
 use Rattle.tc_core.specs.declared.open_txn.Rollback.{Rollback}
 use Rattle.tc_core.specs.declared.phase.Phase.{Phase}
@@ -307,7 +307,7 @@ announces old new l i h = by old.tc_up refl h
 -- ---- the component's events, whatever the rest of the node is
 
 some_dc : DcSide
-some_dc = record { up = true; dc = fresh unused unused }
+some_dc = record { up = true; dc = fresh_dc unused unused }
 
 -- there may be so many requests
 abbrev some_requests : ℕ → List Request

@@ -10,7 +10,7 @@ use Rattle.pool_journal.specs.declared.news.News.{News}
 use Rattle.pool_journal.specs.declared.news.News.TheVariants as news
 use Rattle.pool_journal.specs.Errands.{EndsWithFailure, FailsSince}
 use Rattle.pool_journal.specs.Slots.{Shown}
-use Rattle.pool_journal.specs.Sessions.{Call, Part, called_as, calls, ends, line_to, IsClosed, IsLeft, IsSameCall}
+use Rattle.pool_journal.specs.Sessions.{SessionCall, Part, called_as, calls, ends, line_to, IsClosed, IsLeft, IsSameCall}
 
 -- a session's number, and its part of the journal
 pub record CallerView : Type 0 where
@@ -24,7 +24,7 @@ pub record SessionView : Type 0 where
   pub seat : Seen
 
 -- the same call, of which this line was told
-abbrev pub HasLine : Option Call → Option Call → Line → Type 0
+abbrev pub HasLine : Option SessionCall → Option SessionCall → Line → Type 0
 HasLine None new line = ⊥
 HasLine (Some c) new line = new ≡ Some (called_as c.event c.out (Some line))
 

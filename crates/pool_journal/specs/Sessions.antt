@@ -14,7 +14,7 @@ use Rattle.pool_journal.specs.declared.step.Step.{Step}
 use Rattle.node_laws.specs.Halves.{also}
 
 -- a call with what it came to, and the line that was told of it
-pub record Call : Type 0 where
+pub record SessionCall : Type 0 where
   pub event : Event
   pub out : Out
   pub line : Option Line
@@ -23,17 +23,17 @@ pub record Call : Type 0 where
 -- and what its steps failed by, in order
 pub record Part : Type 0 where
   pub live : Option ℕ
-  pub before : List Call
-  pub latest : Option Call
+  pub before : List SessionCall
+  pub latest : Option SessionCall
   pub errand : Errand
   pub failures : List Failure
 
-abbrev pub with_latest : List Call → Option Call → List Call
+abbrev pub with_latest : List SessionCall → Option SessionCall → List SessionCall
 with_latest before None = before
 with_latest before (Some c) = before ++ c ∷ []
 
 -- a session's calls, in order
-abbrev pub calls : Part → List Call
+abbrev pub calls : Part → List SessionCall
 calls part = with_latest part.before part.latest
 
 abbrev pub calls_as : Option ℕ → ℕ → Bool
@@ -76,22 +76,22 @@ is_untold None = true
 is_untold (Some line) = false
 
 -- the call is to be told of, and wasn't yet
-abbrev pub awaits : Call → Bool
+abbrev pub awaits : SessionCall → Bool
 awaits c = cond (is_pending c.out) (is_untold c.line) false
 
 -- only the first line told of a call counts
-abbrev pub told : Call → Line → Call
+abbrev pub told : SessionCall → Line → SessionCall
 told c line = record { event = c.event; out = c.out; line = cond (awaits c) (Some line) c.line }
 
-abbrev pub told_of : Option Call → Line → Option Call
+abbrev pub told_of : Option SessionCall → Line → Option SessionCall
 told_of None line = None
 told_of (Some c) line = Some (told c line)
 
-abbrev pub pending : Option Call → Bool
+abbrev pub pending : Option SessionCall → Bool
 pending None = false
 pending (Some c) = awaits c
 
-abbrev pub line_of : Option Call → Option Line
+abbrev pub line_of : Option SessionCall → Option Line
 line_of None = None
 line_of (Some c) = c.line
 
@@ -106,7 +106,7 @@ ends (TellsCommitted t) = true
 ends (TellsLost t) = true
 ends _ = false
 
-abbrev pub called_as : Event → Out → Option Line → Call
+abbrev pub called_as : Event → Out → Option Line → SessionCall
 called_as e o line = record { event = e; out = o; line = line }
 
 abbrev pub hears : Part → Option Line → Part
@@ -156,12 +156,12 @@ called part e o = record {
 }
 
 -- a session's part after one more step
-abbrev pub after : ℕ → Part → Step → Part
-after s part e = cond (calls_as e.caller s) (called part e.event e.out) (heard part e.event e.out)
+abbrev pub next_part : ℕ → Part → Step → Part
+next_part s part e = cond (calls_as e.caller s) (called part e.event e.out) (heard part e.event e.out)
 
 abbrev pub part_after : ℕ → Part → List Step → Part
 part_after s part [] = part
-part_after s part (e ∷ es) = part_after s (after s part e) es
+part_after s part (e ∷ es) = part_after s (next_part s part e) es
 
 abbrev pub no_part : Part
 no_part = record { live = None; before = []; latest = None; errand = no_errand; failures = [] }
@@ -179,7 +179,7 @@ abbrev pub IsLeft : Option ℕ → Option ℕ → Type 0
 IsLeft old new = (new ≡ old) ⊎ (new ≡ None)
 
 -- the same call, of which more may have been told
-abbrev pub IsSameCall : Option Call → Option Call → Type 0
+abbrev pub IsSameCall : Option SessionCall → Option SessionCall → Type 0
 IsSameCall None later = later ≡ None
 IsSameCall (Some c) later = (line : Option Line) × (later ≡ Some (called_as c.event c.out line))
 

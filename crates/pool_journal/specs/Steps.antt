@@ -4,8 +4,8 @@ use Rattle.std.specs.Bool.{MatchBool}
 use Rattle.codec.specs.declared.request.Request.{Request}
 use Rattle.codec.specs.declared.reply.Reply.{Reply}
 use Rattle.stable.specs.Usage.{unused}
-use Rattle.tc_core.specs.TcView.{fresh}
-use Rattle.dc_core.specs.DcView.{fresh as fresh_dc}
+use Rattle.tc_core.specs.TcView.{fresh_tc}
+use Rattle.dc_core.specs.DcView.{fresh_tc as fresh_dc}
 use Rattle.node_laws.specs.declared.event.Event.{Event}
 use Rattle.node_laws.specs.declared.event.Out.{Out}
 use Rattle.node_laws.specs.Component.{TcSide, DcSide}
@@ -67,7 +67,7 @@ IsStart start = IsKept (node_at start)
 
 -- both components run, and nothing is logged or stored
 abbrev pub fresh_start : Start
-fresh_start = record { tc = record { up = true; tc = fresh unused }; dc = record { up = true; dc = fresh_dc unused unused } }
+fresh_start = record { tc = record { up = true; tc = fresh_tc unused }; dc = record { up = true; dc = fresh_dc unused unused } }
 
 abbrev pub tc_start : Start → TcState
 tc_start start = record { side = start.tc; sent = 0 }
@@ -118,5 +118,5 @@ pub record RunsTo (start : Start) (es : List Step) (w : NodeView) : Type 0 where
   pub requests : w.requests ≡ requests es
   pub replies : w.replies ≡ replies es
 
-abbrev pub IsRun : Start → List Step → Type 0
-IsRun start es = (w : NodeView) × RunsTo start es w
+abbrev pub RunsFrom : Start → List Step → Type 0
+RunsFrom start es = (w : NodeView) × RunsTo start es w

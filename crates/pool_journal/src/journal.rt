@@ -9,7 +9,7 @@ ghost use Rattle.pool_journal.specs.declared.news.News.TheVariants as news;
 ghost use Rattle.pool_journal.specs.Waiting.{IsNewsAt, IsNewsOf};
 ghost use Rattle.pool_journal.specs.Sessions.{IsCalled, IsClosed, part_of, line_of};
 ghost use Rattle.pool_journal.specs.Slots.{Shown};
-ghost use Rattle.pool_journal.specs.Steps.{is_tc, IsRun, requests, replies, TcState, DcState, GivesTc, GivesDc};
+ghost use Rattle.pool_journal.specs.Steps.{is_tc, RunsFrom, requests, replies, TcState, DcState, GivesTc, GivesDc};
 ghost use Rattle.pool_journal.specs.Views.{Sees};
 
 use crate::caller::Caller;
@@ -145,7 +145,7 @@ impl<J: Naming> Journal<J> {
 
     /// The entries are a run of the node, from its start on.
     pub fn is_run(&self)
-        ensures { IsRun J.start self.now }
+        ensures { RunsFrom J.start self.now }
     {
         self.lines.is_run();
     }

@@ -2,7 +2,7 @@
 ghost use Rattle.std.specs.Prelude.{◌≡◌, ◌<◌, [], ◌∷◌, ◌++◌, true, IfOk, IfSome, IfNone, OnErr, length, slice_get, cond, vec_len, vec_capacity};
 ghost use Rattle.node_laws.specs.Halves.{IsSpelledIf};
 ghost use Rattle.node_laws.specs.Messages.{message_at};
-ghost use Rattle.pool_journal.specs.Steps.{is_tc, IsRun, requests, replies, TcState, DcState, GivesTc, GivesDc, IsStart};
+ghost use Rattle.pool_journal.specs.Steps.{is_tc, RunsFrom, requests, replies, TcState, DcState, GivesTc, GivesDc, IsStart};
 ghost use Rattle.pool_journal.specs.Slots.{Shown, IsShown, seen, through, last_of};
 ghost use Rattle.pool_journal.specs.Views.{Sees};
 ghost use Rattle.pool_journal.specs.Kept.{is_dc, IsInRun, IsSentBy, EntersTc, EntersDc};
@@ -121,7 +121,7 @@ impl<J: Naming> Lines<J> {
 
     /// The entries are a run of the node, from its start on.
     pub fn is_run(&self)
-        ensures { IsRun J.start self.now }
+        ensures { RunsFrom J.start self.now }
     {
         let _ = &self.tokens;
     }

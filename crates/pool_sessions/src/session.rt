@@ -42,7 +42,7 @@ impl<J: Naming, G, D: CrashLog, P: CrashPages> Model for Session<J, G, D, P> {
     ghost use Rattle.std.specs.Coded.{codes};
     ghost use Rattle.atomic_table.specs.Seated.{table_id_coded};
     ghost use Rattle.pool_journal.specs.Callers.{SessionView};
-    ghost use Rattle.session_answers.specs.Unfinished.{IsAtRest};
+    ghost use Rattle.session_answers.specs.Unfinished.{IsBetweenCalls};
 
     ghost Value = { SessionView };
 
@@ -50,7 +50,7 @@ impl<J: Naming, G, D: CrashLog, P: CrashPages> Model for Session<J, G, D, P> {
 
     ghost view = { λ s. record { number = s.caller.number; part = s.caller.part; seat = s.seat } };
 
-    ghost invariant = { λ s. IsAtRest J.entries s.caller.part s.unfinished × (s.seat.marks ≡ J.marks) };
+    ghost invariant = { λ s. IsBetweenCalls J.entries s.caller.part s.unfinished × (s.seat.marks ≡ J.marks) };
 }
 
 impl<J: Naming, G: Gate + Drop, D: CrashLog + Drop, P: CrashPages + Drop> Session<J, G, D, P> {

@@ -12,7 +12,7 @@ use Rattle.std.proofs.lemmas.List.Folds.{list_any-append}
 use Rattle.history.specs.Spans.{Span, AnyConflict}
 use Rattle.range_locks.specs.declared.span.Lock.{Lock}
 use Rattle.range_locks.specs.declared.held.Held.{Held}
-use Rattle.range_locks.specs.Locks.{spans_of, IsFree, IsLeastHolder}
+use Rattle.range_locks.specs.Locks.{spans_of, IsGrantable, IsLeastHolder}
 use Rattle.range_locks.specs.Meant.{span_of, clash, clashes_with, blocks, newest_first, seen, items_of, locks_in}
 use Rattle.range_locks.specs.Least.{least_of, Passes, IsLeast}
 use Rattle.range_locks.proofs.Clashes.{conflicts_from_clashes, clashes_from_conflicts}
@@ -107,7 +107,7 @@ module _ (h : Held) (t : ℕ) (lock : Lock) where
 
   -- what a search for the least says of a take
   pub free_where_none : (least : Option ℕ) → IsLeast (StandsInWay h t lock) least
-      → IfNone least (IsFree (seen h) t (span_of lock))
+      → IfNone least (IsGrantable (seen h) t (span_of lock))
   free_where_none None l = λ u other conflict. l u (other, conflict)
   free_where_none (Some n) l = tt
 

@@ -8,7 +8,7 @@ use Rattle.range_locks.specs.declared.entry.Entry.{Entry}
 use Rattle.range_locks.specs.declared.held.Held.{Held}
 use Rattle.record_key.specs.declared.refusal.Refusal.{Refusal}
 use Rattle.history.specs.Spans.{Span}
-use Rattle.range_locks.specs.Locks.{spans_of, IsFree}
+use Rattle.range_locks.specs.Locks.{spans_of, IsGrantable}
 use Rattle.range_locks.specs.Meant.{span_of, newest_first, seen, locks_in, Lists}
 use Rattle.range_locks.specs.Index.{HasOneHolder, IsKept}
 use Rattle.range_locks.proofs.Leaving.{read}
@@ -54,7 +54,7 @@ pushed_first old new (Some s) t locks r none small kept alone lists same = absur
 
 -- nobody conflicts where the table was the same
 pub free_before : (old new : Held) (t : ℕ) (s : Span) (least : Option ℕ) (r : Result (Unit {0}) Refusal) → new ≡ old
-    → IfNone least (IsFree (seen new) t s) → least ≡ None → OnOk r (IsFree (seen old) t s)
+    → IfNone least (IsGrantable (seen new) t s) → least ≡ None → OnOk r (IsGrantable (seen old) t s)
 free_before old new t s least (Ok x) same free none =
-    subst (λ (h : Held). IsFree (seen h) t s) same (subst (λ o. IfNone o (IsFree (seen new) t s)) none free)
+    subst (λ (h : Held). IsGrantable (seen h) t s) same (subst (λ o. IfNone o (IsGrantable (seen new) t s)) none free)
 free_before old new t s least (Err e) same free none = tt

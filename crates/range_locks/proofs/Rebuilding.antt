@@ -6,12 +6,12 @@ use Rattle.std.proofs.lemmas.List.{reverse-append, map-append, append-nil}
 use Rattle.std.proofs.lemmas.List.Elements.{filter_more}
 use Rattle.history.specs.Spans.{Span, at_key}
 use Rattle.range_locks.specs.Locks.{LocksView, spans_of, set_spans, IsTable}
-use Rattle.range_locks.specs.Meant.{mode_of}
+use Rattle.range_locks.specs.Meant.{mode_meant}
 use Rattle.range_locks.specs.Rebuilt.{Listed, IsRebuilt, listed_spans}
 use Rattle.range_locks.proofs.Tables.{set_table, set_own, set_other}
 
 abbrev pub span_at : Listed → Span
-span_at e = at_key (mode_of e.2) e.1
+span_at e = at_key (mode_meant e.2) e.1
 
 module _ (locks : List (Listed)) (i : ℕ) (e : Listed) (within : i < length locks) (is : e ≡ get_or locks i e)
   where

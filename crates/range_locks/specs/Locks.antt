@@ -32,8 +32,8 @@ abbrev pub IsTable : LocksView → Type 0
 IsTable v = RisesFrom 0 v
 
 -- no other transaction holds a conflicting span
-abbrev pub IsFree : LocksView → ℕ → Span → Type 0
-IsFree v t s = (u : ℕ) → u ≢ t → AnyConflict s (spans_of v u) → ⊥
+abbrev pub IsGrantable : LocksView → ℕ → Span → Type 0
+IsGrantable v t s = (u : ℕ) → u ≢ t → AnyConflict s (spans_of v u) → ⊥
 
 -- of the other transactions that hold a conflicting span, this one has the least number
 pub record IsLeastHolder (v : LocksView) (t : ℕ) (s : Span) (u : ℕ) : Type 0 where
@@ -45,5 +45,5 @@ pub record IsLeastHolder (v : LocksView) (t : ℕ) (s : Span) (u : ℕ) : Type 0
 abbrev pub Refuses : LocksView → ℕ → Span → Refusal → Type 0
 Refuses v t s BadRange = HasKeys s.range → ⊥
 Refuses v t s (Busy u) = HasKeys s.range × IsLeastHolder v t s u
-Refuses v t s NoMemory = HasKeys s.range × IsFree v t s
+Refuses v t s NoMemory = HasKeys s.range × IsGrantable v t s
 Refuses v t s _ = ⊥

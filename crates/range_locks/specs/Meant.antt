@@ -17,10 +17,10 @@ use Rattle.range_locks.specs.declared.span.Lock.{Lock}
 use Rattle.range_locks.specs.declared.held.Held.{Held}
 use Rattle.range_locks.specs.Locks.{LocksView}
 
-abbrev pub mode_of : Mode → law.Mode
-mode_of Shared = law.Shared
-mode_of Increment = law.Increment
-mode_of Exclusive = law.Exclusive
+abbrev pub mode_meant : Mode → law.Mode
+mode_meant Shared = law.Shared
+mode_meant Increment = law.Increment
+mode_meant Exclusive = law.Exclusive
 
 abbrev pub low_of : Span → Bytes
 low_of (Key k) = k
@@ -34,7 +34,7 @@ abbrev pub range_of : Span → keys.Range
 range_of s = record { lo = low_of s; hi = high_of s }
 
 abbrev pub meant : Mode → Span → law.Span
-meant m s = record { range = range_of s; mode = mode_of m }
+meant m s = record { range = range_of s; mode = mode_meant m }
 
 abbrev pub span_of : Lock → law.Span
 span_of l = meant l.mode l.span

@@ -2,7 +2,7 @@
 ghost use Rattle.std.specs.Prelude.{◌≡◌, ◌≢◌, ℕ, ◌∷◌, ◌++◌, [], true, drop, IfOk, IfErr, IfSome, IfNone, OnOk, OnErr};
 ghost use Rattle.std.specs.Bool.{MatchBool};
 ghost use Rattle.std.specs.List.{list_any};
-ghost use Rattle.range_locks.specs.Locks.{spans_of, set_spans, IsFree, IsLeastHolder};
+ghost use Rattle.range_locks.specs.Locks.{spans_of, set_spans, IsGrantable, IsLeastHolder};
 ghost use Rattle.range_locks.specs.Meant.{span_of, seen, items_of, locks_in, Lists, clashes_with, blocks};
 ghost use Rattle.range_locks.specs.Index.{stands};
 ghost use Rattle.range_locks.specs.Least.{lesser};
@@ -132,7 +132,7 @@ impl Held {
 
     /// Of the other transactions that hold a conflicting lock, the least one. Looks at each lock.
     pub fn least_holder(&self, txn: u64, lock: &Lock) -> Option<u64>
-        ensures free { IfNone result (IsFree (seen self.now) txn (span_of lock.now)) }
+        ensures free { IfNone result (IsGrantable (seen self.now) txn (span_of lock.now)) }
         ensures least { IfSome result (IsLeastHolder (seen self.now) txn (span_of lock.now)) }
     {
         let mut least = None;

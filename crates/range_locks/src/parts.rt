@@ -1,7 +1,7 @@
 //! The locks and their index together. While one transaction alone asks for locks there is no index.
 ghost use Rattle.std.specs.Prelude.{◌≡◌, ◌≢◌, ℕ, ◌∷◌, [], drop, true, IfOk, IfErr, IfSome, IfNone, OnOk, OnErr};
 ghost use Rattle.record_key.specs.Order.{ends_above, HasKeys};
-ghost use Rattle.range_locks.specs.Locks.{spans_of, set_spans, IsFree, IsLeastHolder, Refuses};
+ghost use Rattle.range_locks.specs.Locks.{spans_of, set_spans, IsGrantable, IsLeastHolder, Refuses};
 ghost use Rattle.range_locks.specs.Meant.{low_of, high_of, meant, range_of, span_of, seen};
 ghost use Rattle.range_locks.specs.Index.{IsIndexed, IsKept};
 ghost use Rattle.range_locks.specs.Rebuilt.{IsRebuilt};
@@ -54,7 +54,7 @@ impl Parts {
         requires { IsKept self.old.held self.old.index }
         ensures kept { IsKept self.new.held self.new.index }
         ensures range { OnOk result (HasKeys (range_of span.now)) }
-        ensures free { OnOk result (IsFree (seen self.old.held) txn (meant mode span.now)) }
+        ensures free { OnOk result (IsGrantable (seen self.old.held) txn (meant mode span.now)) }
         ensures taken { OnOk result
             (seen self.new.held ≡ set_spans txn (meant mode span.now ∷ spans_of (seen self.old.held) txn)
             (seen self.old.held)) }
@@ -86,7 +86,7 @@ impl Parts {
         requires { IsKept self.old.held self.old.index }
         ensures kept { IsKept self.new.held self.new.index }
         ensures range { OnOk result (HasKeys (range_of (Span.Key key.now))) }
-        ensures free { OnOk result (IsFree (seen self.old.held) txn (meant mode (Span.Key key.now))) }
+        ensures free { OnOk result (IsGrantable (seen self.old.held) txn (meant mode (Span.Key key.now))) }
         ensures taken { OnOk result
             (seen self.new.held ≡ set_spans txn (meant mode (Span.Key key.now) ∷ spans_of (seen self.old.held) txn)
             (seen self.old.held)) }
@@ -104,7 +104,7 @@ impl Parts {
     pub fn least_holder(&self, txn: u64, lock: &Lock) -> Option<u64>
         requires kept { IsKept self.now.held self.now.index }
         requires range { ends_above (high_of lock.now.span) (low_of lock.now.span) ≡ true }
-        ensures free { IfNone result (IsFree (seen self.now.held) txn (span_of lock.now)) }
+        ensures free { IfNone result (IsGrantable (seen self.now.held) txn (span_of lock.now)) }
         ensures least { IfSome result (IsLeastHolder (seen self.now.held) txn (span_of lock.now)) }
     {
         let Some(index) = &self.index else {

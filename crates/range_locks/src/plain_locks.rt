@@ -2,7 +2,7 @@
 ghost use Rattle.std.specs.Prelude.{◌≡◌, ◌≢◌, ◌∷◌, [], drop, IfErr, OnOk, OnErr};
 ghost use Rattle.std.specs.Bool.{MatchBool};
 ghost use Rattle.record_key.specs.Order.{HasKeys};
-ghost use Rattle.range_locks.specs.Locks.{spans_of, set_spans, IsFree, Refuses};
+ghost use Rattle.range_locks.specs.Locks.{spans_of, set_spans, IsGrantable, Refuses};
 ghost use Rattle.range_locks.specs.Meant.{meant, range_of};
 ghost use Rattle.range_locks.specs.Rebuilt.{IsRebuilt};
 
@@ -44,7 +44,7 @@ impl PlainLocks {
     /// then. The first of these causes is given.
     pub fn take(&mut self, txn: u64, mode: Mode, span: &Span) -> Result<(), Refusal>
         ensures range { OnOk result (HasKeys (range_of span.now)) }
-        ensures free { OnOk result (IsFree self.old txn (meant mode span.now)) }
+        ensures free { OnOk result (IsGrantable self.old txn (meant mode span.now)) }
         ensures taken { OnOk result (self.new ≡ set_spans txn (meant mode span.now ∷ spans_of self.old txn) self.old) }
         ensures refused { IfErr result (Refuses self.old txn (meant mode span.now)) }
         ensures unchanged { OnErr result (self.new ≡ self.old) }
@@ -65,7 +65,7 @@ impl PlainLocks {
     /// Takes one key for the transaction, as `take` takes its span.
     pub fn take_key(&mut self, txn: u64, mode: Mode, key: &Key) -> Result<(), Refusal>
         ensures range { OnOk result (HasKeys (range_of (Span.Key key.now))) }
-        ensures free { OnOk result (IsFree self.old txn (meant mode (Span.Key key.now))) }
+        ensures free { OnOk result (IsGrantable self.old txn (meant mode (Span.Key key.now))) }
         ensures taken { OnOk result
             (self.new ≡ set_spans txn (meant mode (Span.Key key.now) ∷ spans_of self.old txn) self.old) }
         ensures refused { IfErr result (Refuses self.old txn (meant mode (Span.Key key.now))) }

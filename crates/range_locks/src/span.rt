@@ -2,7 +2,7 @@
 ghost use Rattle.std.specs.Prelude.{◌≡◌};
 ghost use Rattle.history.specs.Spans.{at_key, do_conflict};
 ghost use Rattle.record_key.specs.Order.{ends_above};
-ghost use Rattle.range_locks.specs.Meant.{mode_of, low_of, high_of, span_of, later, clash};
+ghost use Rattle.range_locks.specs.Meant.{mode_meant, low_of, high_of, span_of, later, clash};
 
 use record_key::Key;
 
@@ -32,7 +32,7 @@ pub struct Lock {
 
 impl Mode {
     fn conflicts(self, other: Mode) -> bool
-        ensures { result ≡ do_conflict (mode_of self) (mode_of other) }
+        ensures { result ≡ do_conflict (mode_meant self) (mode_meant other) }
     {
         match (self, other) {
             (Mode::Shared, Mode::Shared) => false,
@@ -88,7 +88,7 @@ impl Span {
 impl Lock {
     /// One key, held for this.
     pub fn of_key(key: &Key, mode: Mode) -> Lock
-        ensures { span_of result ≡ at_key (mode_of mode) key.now }
+        ensures { span_of result ≡ at_key (mode_meant mode) key.now }
     {
         Lock {
             span: Span::Key(key.copied()),

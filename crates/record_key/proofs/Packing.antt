@@ -10,12 +10,12 @@ use Rattle.record_key.specs.declared.op.Answer.{Answer}
 use Rattle.record_key.specs.declared.op.Answer.TheVariants.{Inserted, Updated, Was, Deleted, Exists, NoRecord, NotNumber, Added}
 use Rattle.record_key.specs.declared.entry.Entry.{Entry}
 use Rattle.record_key.specs.declared.slot.Slot.{Slot}
-use Rattle.record_key.specs.Packed.{kind_of, value_of, answer_of, packed, key_len, value_len, key_at, answer_at, IsPacked, HasLengths, HasAmount, entry_in, IsFilled}
+use Rattle.record_key.specs.Packed.{kind_of, value_told, answer_from, packed, key_len, value_len, key_at, packed_answer, IsPacked, HasLengths, HasAmount, entry_in, IsFilled}
 use Rattle.record_key.proofs.Amounts.{amount_again, amount_length}
 use Rattle.record_key.proofs.Lists.{all_from}
 use Rattle.record_key.proofs.Kept.{retained, all_filtered, map-filtered}
 
-answer_again : (a : Answer) → HasAmount a → answer_of (kind_of a) (value_of a) ≡ a
+answer_again : (a : Answer) → HasAmount a → answer_from (kind_of a) (value_told a) ≡ a
 answer_again Inserted h = refl
 answer_again (Updated value) h = refl
 answer_again (Was None) h = refl
@@ -27,7 +27,7 @@ answer_again NotNumber h = refl
 answer_again (Added amount) h = ap Added (amount_again amount h)
 
 -- only an Added is of kind 9, and it has eight bytes
-amount_eight : (a : Answer) → kind_of a ≡ 9 → length (value_of a) ≡ 8
+amount_eight : (a : Answer) → kind_of a ≡ 9 → length (value_told a) ≡ 8
 amount_eight Inserted h = absurd (omega arith)
 amount_eight (Updated value) h = absurd (omega arith)
 amount_eight (Was None) h = absurd (omega arith)
@@ -67,11 +67,11 @@ module _ (bytes more : List ℕ) (place : ℕ) (h : IsPacked bytes place) where
   key_still = ap (λ (n : ℕ). take n (drop 3 (drop place (bytes ++ more)))) (same_head 0 (omega arith))
       ∙ same_part 3 (key_len bytes place) (omega (arith, h.within))
 
-  answer_still : answer_at (bytes ++ more) place ≡ answer_at bytes place
-  unfolding answer_at
+  answer_still : packed_answer (bytes ++ more) place ≡ packed_answer bytes place
+  unfolding packed_answer
   answer_still =
       rw (same_head 0 (omega arith), same_head 1 (omega arith), same_head 2 (omega arith))
-      (ap (answer_of (get_or tail 1 0))
+      (ap (answer_from (get_or tail 1 0))
       (same_part (3 + key_len bytes place) (value_len bytes place) (omega (arith, h.within))))
 
   packed_still : IsPacked (bytes ++ more) place
@@ -114,29 +114,29 @@ module _ (bytes : List ℕ) (key : Bytes) (answer : Answer) (h : HasLengths key 
 
   key_newest : key_at longer (length bytes) ≡ key
   unfolding key_at packed
-  key_newest = rw newest (take-append_seam key (value_of answer))
+  key_newest = rw newest (take-append_seam key (value_told answer))
 
-  answer_newest : answer_at longer (length bytes) ≡ answer
-  unfolding answer_at packed
+  answer_newest : packed_answer longer (length bytes) ≡ answer
+  unfolding packed_answer packed
   answer_newest =
       let three : 3 + length key ≡ suc (suc (suc (length key))) = omega arith in
-      ap (λ (t : List ℕ). answer_of (get_or t 1 0) (take (get_or t 2 0) (drop (3 + get_or t 0 0) t))) newest
-      ∙ ap (λ (n : ℕ). answer_of (kind_of answer) (take (length (value_of answer)) (drop n (packed key answer)))) three
-      ∙ ap (λ (v : Bytes). answer_of (kind_of answer) (take (length (value_of answer)) v))
-      (drop_at key (value_of answer) (length key) refl)
-      ∙ ap (answer_of (kind_of answer)) (take_all (length (value_of answer)) (value_of answer) (omega arith))
+      ap (λ (t : List ℕ). answer_from (get_or t 1 0) (take (get_or t 2 0) (drop (3 + get_or t 0 0) t))) newest
+      ∙ ap (λ (n : ℕ). answer_from (kind_of answer) (take (length (value_told answer)) (drop n (packed key answer)))) three
+      ∙ ap (λ (v : Bytes). answer_from (kind_of answer) (take (length (value_told answer)) v))
+      (drop_at key (value_told answer) (length key) refl)
+      ∙ ap (answer_from (kind_of answer)) (take_all (length (value_told answer)) (value_told answer) (omega arith))
       ∙ answer_again answer h.amount
 
   packed_newest : IsPacked longer (length bytes)
   unfolding packed
   packed_newest =
-      let lengths = length-append key (value_of answer) in
-      let all : length (drop (length bytes) longer) ≡ suc (suc (suc (length (key ++ value_of answer)))) =
+      let lengths = length-append key (value_told answer) in
+      let all : length (drop (length bytes) longer) ≡ suc (suc (suc (length (key ++ value_told answer)))) =
       ap length newest in
       let first : key_len longer (length bytes) ≡ length key = ap (λ (t : List ℕ). get_or t 0 0) newest in
       let second : get_or (drop (length bytes) longer) 1 0 ≡ kind_of answer =
       ap (λ (t : List ℕ). get_or t 1 0) newest in
-      let third : value_len longer (length bytes) ≡ length (value_of answer) =
+      let third : value_len longer (length bytes) ≡ length (value_told answer) =
       ap (λ (t : List ℕ). get_or t 2 0) newest in
       record {
         some_key = omega (arith, first, h.some_key);
@@ -179,7 +179,7 @@ module _ (bytes : List ℕ) (slots : List Slot) (all : AllByRecursion (IsFilled 
       ∙ (λ i. insert (same_entries bytes (packed key answer) slots all i) at (record {
         number = number;
         key = (ap (key_at (bytes ++ packed key answer)) ends ∙ key_newest bytes key answer h) i;
-        answer = (ap (answer_at (bytes ++ packed key answer)) ends ∙ answer_newest bytes key answer h) i;
+        answer = (ap (packed_answer (bytes ++ packed key answer)) ends ∙ answer_newest bytes key answer h) i;
       }))
 
 -- ---- fewer entries

@@ -19,16 +19,16 @@ kind_of NotNumber = 8
 kind_of (Added amount) = 9
 
 -- the value or the amount that an answer tells, no bytes where it tells none
-abbrev pub value_of : Answer → Bytes
-value_of Inserted = []
-value_of (Updated value) = value
-value_of (Was None) = []
-value_of (Was (Some value)) = value
-value_of (Deleted value) = value
-value_of Exists = []
-value_of NoRecord = []
-value_of NotNumber = []
-value_of (Added amount) = amount_bytes amount
+abbrev pub value_told : Answer → Bytes
+value_told Inserted = []
+value_told (Updated value) = value
+value_told (Was None) = []
+value_told (Was (Some value)) = value
+value_told (Deleted value) = value
+value_told Exists = []
+value_told NoRecord = []
+value_told NotNumber = []
+value_told (Added amount) = amount_bytes amount
 
 -- the amount that an answer tells, 0 where it tells none
 abbrev pub amount_of : Answer → ℕ
@@ -36,8 +36,8 @@ amount_of (Added amount) = amount
 amount_of _ = 0
 
 -- the answer of this kind
-abbrev pub answer_of : ℕ → Bytes → Answer
-answer_of kind value =
+abbrev pub answer_from : ℕ → Bytes → Answer
+answer_from kind value =
     if kind == 1 then Inserted
     else if kind == 2 then Updated value
     else if kind == 3 then Was None
@@ -49,7 +49,7 @@ answer_of kind value =
     else NoRecord
 
 unfoldable pub packed : Bytes → Answer → List ℕ
-packed key answer = length key ∷ kind_of answer ∷ length (value_of answer) ∷ (key ++ value_of answer)
+packed key answer = length key ∷ kind_of answer ∷ length (value_told answer) ∷ (key ++ value_told answer)
 
 -- the lengths that the bytes at a place begin with
 abbrev pub key_len : List ℕ → ℕ → ℕ
@@ -62,8 +62,8 @@ value_len bytes place = get_or (drop place bytes) 2 0
 unfoldable pub key_at : List ℕ → ℕ → Bytes
 key_at bytes place = take (key_len bytes place) (drop 3 (drop place bytes))
 
-unfoldable pub answer_at : List ℕ → ℕ → Answer
-answer_at bytes place = answer_of (get_or (drop place bytes) 1 0)
+unfoldable pub packed_answer : List ℕ → ℕ → Answer
+packed_answer bytes place = answer_from (get_or (drop place bytes) 1 0)
     (take (value_len bytes place) (drop (3 + key_len bytes place) (drop place bytes)))
 
 -- a key and an answer that have lengths of their types stand at a place
@@ -83,7 +83,7 @@ HasAmount _ = Unit {0}
 pub record HasLengths (key : Bytes) (answer : Answer) : Type 0 where
   pub some_key : 0 < length key
   pub short_key : length key ≤ 32
-  pub short_value : length (value_of answer) ≤ 120
+  pub short_value : length (value_told answer) ≤ 120
   pub amount : HasAmount answer
 
 -- the entry whose key and answer stand at its place
@@ -91,7 +91,7 @@ abbrev pub entry_in : List ℕ → Slot → Entry
 entry_in bytes slot = record {
   number = slot.number;
   key = key_at bytes slot.place;
-  answer = answer_at bytes slot.place;
+  answer = packed_answer bytes slot.place;
 }
 
 abbrev pub IsFilled : List ℕ → Slot → Type 0

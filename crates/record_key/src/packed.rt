@@ -4,7 +4,7 @@ ghost use Rattle.std.specs.Prelude.{◌≡◌, ◌+◌, ◌≤◌, ◌++◌, len
 ghost use Rattle.std.specs.Vec.{vec_capacity};
 ghost use Rattle.record_key.specs.Order.{is_below};
 ghost use Rattle.record_key.specs.Amounts.{amount_bytes};
-ghost use Rattle.record_key.specs.Packed.{kind_of, value_of, amount_of, answer_of, packed, key_at, answer_at, HasLengths, IsPacked};
+ghost use Rattle.record_key.specs.Packed.{kind_of, value_told, amount_of, answer_from, packed, key_at, packed_answer, HasLengths, IsPacked};
 
 use crate::key::Key;
 use crate::op::Answer;
@@ -76,7 +76,7 @@ fn amount_of(answer: &Answer) -> u64
 #[tactic(auto, unfolding(crate::specs::Amounts::amount_bytes))]
 fn value_of<'a>(answer: &'a Answer, amount: &'a [u8; 8]) -> &'a [u8]
     requires { amount.now ≡ amount_bytes (amount_of answer.now) }
-    ensures bytes { result.now ≡ value_of answer.now }
+    ensures bytes { result.now ≡ value_told answer.now }
     ensures bounded { length result.now ≤ 120 }
 {
     match answer {
@@ -135,10 +135,10 @@ fn tail_at(bytes: &[u8], place: usize) -> &[u8]
 }
 
 /// The answer at a place.
-#[tactic(auto, unfolding(crate::specs::Packed::answer_at))]
+#[tactic(auto, unfolding(crate::specs::Packed::packed_answer))]
 pub(crate) fn answer_at(bytes: &[u8], place: usize) -> Answer
     requires { IsPacked bytes.now place }
-    ensures { result ≡ answer_at bytes.now place }
+    ensures { result ≡ packed_answer bytes.now place }
 {
     let tail = tail_at(bytes, place);
     let from = HEAD_LEN + tail[0] as usize;
@@ -151,7 +151,7 @@ pub(crate) fn answer_at(bytes: &[u8], place: usize) -> Answer
 #[tactic(auto, unfolding(crate::specs::Amounts::amount_in))]
 fn answer_of(kind: u8, value: Value) -> Answer
     requires { kind ≡ 9 → length value ≡ 8 }
-    ensures { result ≡ answer_of kind value }
+    ensures { result ≡ answer_from kind value }
 {
     match kind {
         1 => Answer::Inserted,

@@ -8,9 +8,9 @@ use Rattle.node_laws.specs.declared.event.Out.TheVariants as out
 use Rattle.pool_journal.specs.Callers.{HasLine}
 use Rattle.pool_journal.specs.Errands.{EndsWithFailure}
 use Rattle.pool_journal.specs.declared.failure.Failure.{Failure}
-use Rattle.pool_journal.specs.Sessions.{Call, IsLeft, LeavesLive, Part, called_as, calls, is_pending, with_latest}
+use Rattle.pool_journal.specs.Sessions.{SessionCall, IsLeft, LeavesLive, Part, called_as, calls, is_pending, with_latest}
 use Rattle.pool_journal.specs.Slots.{Slot}
-use Rattle.session_answers.specs.Answers.{Adds, Calls, Ends, Finishes}
+use Rattle.session_answers.specs.Answers.{Adds, CallsUntold, Ends, Finishes}
 use Rattle.session_answers.specs.declared.ended.Ended.{Ended}
 use Rattle.session_answers.specs.declared.ended.Ended.TheVariants as ended
 
@@ -24,13 +24,13 @@ halted _ was mid new pends left same alive = at left
     at (inl is) = same ∙ is
     at (inr gone) = absurd (cc (sym (ap (λ (o : Option ℕ). is_some o) (same ∙ gone)) ∙ alive))
 
-adds : (c : Call) (old new : Part) → new.before ≡ calls old → new.latest ≡ Some c → calls new ≡ calls old ++ c ∷ []
+adds : (c : SessionCall) (old new : Part) → new.before ≡ calls old → new.latest ≡ Some c → calls new ≡ calls old ++ c ∷ []
 adds c old new before latest i = with_latest (before i) (latest i)
 
 abbrev pub out_of : Slot → Out
 out_of p = p.value.step.value.out
 
-pub ends_by : (row : Shelves) (e : Event) (old mid new : Part) (token : Slot) (how : Ended) → Calls row e old token mid
+pub ends_by : (row : Shelves) (e : Event) (old mid new : Part) (token : Slot) (how : Ended) → CallsUntold row e old token mid
     → Finishes row token mid how new → Ends row e old how new
 ends_by row e old mid new token (ended.AtOnce p) k (shown, is, done, still) =
     let same : out_of p ≡ out_of token = ap out_of is in
@@ -44,7 +44,7 @@ ends_by row e old mid new token (ended.AtOnce p) k (shown, is, done, still) =
 ends_by row e old mid new token (ended.Told p q) k (p_shown, is, q_shown, pends, told) =
     let same : out_of p ≡ out_of token = ap out_of is in
     let latest : new.latest ≡ Some (called_as e (out_of token) (Some told.line)) =
-    subst (λ (o : Option Call). HasLine o new.latest told.line) k.called.latest told.latest in (
+    subst (λ (o : Option SessionCall). HasLine o new.latest told.line) k.called.latest told.latest in (
       p_shown,
       q_shown,
       ap is_pending same ∙ pends,

@@ -7,7 +7,7 @@ use Rattle.node_laws.specs.declared.event.Event.{Event}
 use Rattle.node_laws.specs.declared.event.Event.TheVariants as event
 use Rattle.node_laws.specs.declared.event.Out.{Out}
 use Rattle.pool_journal.specs.Callers.{HasLine}
-use Rattle.pool_journal.specs.Sessions.{Call, Part, called_as, calls, is_pending, line_to, pending, with_latest}
+use Rattle.pool_journal.specs.Sessions.{SessionCall, Part, called_as, calls, is_pending, line_to, pending, with_latest}
 use Rattle.pool_journal.specs.Slots.{Slot}
 use Rattle.session_answers.proofs.Telling.{commits, given_as_told, one_line}
 use Rattle.session_answers.specs.Again.{CarriesOn, IsAnswer, IsGiven, IsNotTold, IsToldSo, RefusedAgain, Resumes}
@@ -44,7 +44,7 @@ answers (event.Commit u) o t l line (told.Committed n) is (logged, tells) = (log
 answers _ o t l line _ is given = absurd given
 
 -- the list, of which the latest call has this line
-listed : (old new : Part) (c : Call) → new.before ≡ old.before → new.latest ≡ Some c
+listed : (old new : Part) (c : SessionCall) → new.before ≡ old.before → new.latest ≡ Some c
     → calls new ≡ old.before ++ c ∷ []
 listed old new c before latest i = with_latest (before i) (latest i)
 
@@ -60,7 +60,7 @@ carries_on row old new (ended.Told p q) a (s, s_shown, was, unfinished, (p_shown
       answers = answers (event_in p) (out_of p) by.txn (out_of q) by.line a by.tells given;
       list =
           listed old new (called_as (event_in p) (out_of p) (Some by.line)) by.before
-          (subst (λ (o : Option Call). HasLine o new.latest by.line) now by.latest);
+          (subst (λ (o : Option SessionCall). HasLine o new.latest by.line) now by.latest);
       over = by.over;
     }
 carries_on row old new (ended.AtOnce p) a resumes given = absurd given
@@ -68,9 +68,9 @@ carries_on row old new (ended.Unfinished u f) a resumes given = absurd given
 carries_on row old new ended.CutOff a resumes given = absurd given
 
 -- a call that is to be told of isn't answered by its entry
-pends_of : (s : Slot) (latest : Option Call) → latest ≡ Some (call_in s) → pending latest ≡ true
+pends_of : (s : Slot) (latest : Option SessionCall) → latest ≡ Some (call_in s) → pending latest ≡ true
     → is_pending (out_of s) ≡ true
-pends_of s latest is pends = at (is_pending (out_of s)) (sym (ap (λ (o : Option Call). pending o) is) ∙ pends)
+pends_of s latest is pends = at (is_pending (out_of s)) (sym (ap (λ (o : Option SessionCall). pending o) is) ∙ pends)
   where
     at : (b : Bool) → cond b true false ≡ true → b ≡ true
     at true so = refl
@@ -96,7 +96,7 @@ refused_again row old new (ended.Told p q) r (s, s_shown, was, unfinished, (p_sh
         line = Some by.line;
         list =
             listed old new (called_as (event_in p) (out_of p) (Some by.line)) by.before
-            (subst (λ (o : Option Call). HasLine o new.latest by.line) now by.latest);
+            (subst (λ (o : Option SessionCall). HasLine o new.latest by.line) now by.latest);
         unanswered =
             not_answered (event_in p) (out_of p) (Some by.line) awaited
             (sym (given_as_told (event_in p) (out_of p) by.txn (out_of q) by.line by.tells) ∙ isnt);

@@ -10,7 +10,7 @@ use Rattle.node_laws.specs.declared.event.Out.{Out}
 use Rattle.node_laws.specs.declared.event.Out.TheVariants as out
 use Rattle.pool_journal.specs.Errands.{EndsWithFailure}
 use Rattle.pool_journal.specs.Failing.{refusal_of}
-use Rattle.pool_journal.specs.Sessions.{Call, Part, called_as, calls, IsClosed}
+use Rattle.pool_journal.specs.Sessions.{SessionCall, Part, called_as, calls, IsClosed}
 use Rattle.pool_journal.specs.Slots.{Slot, Shown}
 use Rattle.pool_journal.specs.declared.failure.Failure.{Failure}
 use Rattle.session_answers.specs.Answers.{Finishes, IsOver, TellsCommit}
@@ -75,7 +75,7 @@ IsNotTold ended.CutOff r = r ≡ NotConnected
 -- the unfinished call has got its line, and that answers it so
 pub record CarriesOn (old : Part) (t : Told) (new : Part) : Type 0 where
   pub unfinished : IsUnfinished old
-  pub call : Call
+  pub call : SessionCall
   pub was : old.latest ≡ Some call
   pub line : Line
   pub answers : IsAnswer call.event call.out line t
@@ -88,7 +88,7 @@ IsSeenBy stable t = (n : ℕ) → t ≡ told.Committed n → n ≤ stable
 
 -- nothing more is told of the call: a line was told of it that doesn't answer it, or a crash has cut it off
 pub record IsLost (old new : Part) : Type 0 where
-  pub call : Call
+  pub call : SessionCall
   pub was : old.latest ≡ Some call
   pub line : Option Line
   pub list : calls new ≡ old.before ++ called_as call.event call.out line ∷ []

@@ -12,7 +12,7 @@ use Rattle.boxcar.specs.Table.{Shelves}
 use Rattle.session_answers.specs.declared.ended.Ended.{Ended}
 use Rattle.session_answers.specs.declared.ended.Ended.TheVariants as ended
 use Rattle.session_answers.specs.Asking.{is_answered}
-use Rattle.pool_journal.specs.Sessions.{IsCalled, LeavesLive, Call, Part, called_as, calls, ends, is_pending, line_to}
+use Rattle.pool_journal.specs.Sessions.{IsCalled, LeavesLive, SessionCall, Part, called_as, calls, ends, is_pending, line_to}
 use Rattle.pool_journal.specs.Callers.{Awaits, IsToldBy, IsUntold}
 use Rattle.pool_journal.specs.Errands.{EndsWithFailure}
 use Rattle.pool_journal.specs.Failing.{refusal_of}
@@ -30,7 +30,7 @@ AddsTo of o line old new = (t : ℕ) × (old.live ≡ Some t) × Adds (of t) o l
 
 -- a call with an entry that is refused, since it wasn't answered
 pub record Refused (e : Event) (was : Option ℕ) (old : Part) (r : Refusal) (new : Part) : Type 0 where
-  pub call : Call
+  pub call : SessionCall
   pub event : call.event ≡ e
   pub adds : calls new ≡ calls old ++ call ∷ []
   pub unanswered : is_answered call ≡ false
@@ -65,7 +65,7 @@ abbrev pub IsOver : Line → Part → Type 0
 IsOver line new = ends line ≡ true → new.live ≡ None
 
 -- the call stands in the journal, and nothing was told of it yet
-pub record Calls (row : Shelves) (e : Event) (old : Part) (token : Slot) (new : Part) : Type 0 where
+pub record CallsUntold (row : Shelves) (e : Event) (old : Part) (token : Slot) (new : Part) : Type 0 where
   pub shown : Shown row token
   pub event : token.value.step.value.event ≡ e
   pub called : IsCalled old e token.value.step.value.out new

@@ -7,7 +7,7 @@ use Rattle.node_laws.specs.declared.event.Out.{Out}
 use Rattle.node_laws.specs.declared.event.Out.TheVariants as out
 use Rattle.session_answers.specs.declared.ask.Ask.{Ask}
 use Rattle.session_answers.specs.declared.ask.Ask.TheVariants as ask
-use Rattle.pool_journal.specs.Sessions.{Call, is_pending}
+use Rattle.pool_journal.specs.Sessions.{SessionCall, is_pending}
 
 -- the event that it is of this transaction
 abbrev pub event_of : ℕ → Ask → Event
@@ -123,5 +123,5 @@ is_done (event.Save t) o = is_saved o
 is_done _ o = false
 
 -- the call was answered
-abbrev pub is_answered : Call → Bool
+abbrev pub is_answered : SessionCall → Bool
 is_answered c = cond (is_pending c.out) (is_told c.event c.out c.line) (is_done c.event c.out)

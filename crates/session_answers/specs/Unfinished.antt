@@ -6,7 +6,7 @@ use Rattle.record_key.specs.declared.refusal.Refusal.{Refusal}
 use Rattle.record_key.specs.declared.refusal.Refusal.TheVariants.{NotOpen, RollingBack, Unanswered}
 use Rattle.node_laws.specs.declared.event.Out.{Out}
 use Rattle.node_laws.specs.declared.event.Out.TheVariants as out
-use Rattle.pool_journal.specs.Sessions.{Call, Part, called_as, is_pending, pending, IsClosed}
+use Rattle.pool_journal.specs.Sessions.{SessionCall, Part, called_as, is_pending, pending, IsClosed}
 use Rattle.pool_journal.specs.Slots.{Slot, Shown}
 use Rattle.session_answers.specs.declared.ended.Ended.{Ended}
 use Rattle.session_answers.specs.declared.ended.Ended.TheVariants as ended
@@ -22,12 +22,12 @@ bar_of out.RollingBack = RollingBack
 bar_of (out.CommitLogged n) = NotOpen
 bar_of _ = Unanswered
 
-abbrev pub bar : Option Call → Refusal
+abbrev pub bar : Option SessionCall → Refusal
 bar None = NotOpen
 bar (Some c) = bar_of c.out
 
 -- the call of an entry, of which nothing was told
-abbrev pub call_in : Slot → Call
+abbrev pub call_in : Slot → SessionCall
 call_in p = called_as p.value.step.value.event p.value.step.value.out None
 
 -- the session's latest call is this one, and it is unfinished
@@ -38,9 +38,9 @@ pub record IsHalfDone (row : Shelves) (part : Part) (u : Unfinished) : Type 0 wh
   pub alive : is_some part.live ≡ true
 
 -- what a session knows between two calls: which call is unfinished, if one is
-abbrev pub IsAtRest : Shelves → Part → Option Unfinished → Type 0
-IsAtRest row part None = IsClosed part
-IsAtRest row part (Some u) = IsHalfDone row part u
+abbrev pub IsBetweenCalls : Shelves → Part → Option Unfinished → Type 0
+IsBetweenCalls row part None = IsClosed part
+IsBetweenCalls row part (Some u) = IsHalfDone row part u
 
 -- the call that is left unfinished
 abbrev pub left_by : Ended → Option Unfinished

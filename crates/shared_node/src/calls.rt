@@ -6,7 +6,7 @@ ghost use Rattle.node_laws.specs.declared.event.Event.TheVariants as event;
 ghost use Rattle.session_answers.specs.Again.{Resumes};
 ghost use Rattle.session_answers.specs.Answers.{Ends, Finishes, IsSecond, IsUncalled};
 ghost use Rattle.session_answers.specs.Asking.{event_of};
-ghost use Rattle.session_answers.specs.Unfinished.{IsAtRest, call_in, left_by};
+ghost use Rattle.session_answers.specs.Unfinished.{IsBetweenCalls, call_in, left_by};
 
 use crate::board::Job;
 use crate::entrance::Called;
@@ -34,7 +34,7 @@ impl<J: Naming, G: Gate, D: CrashLog, P: CrashPages> Shared<J, G, D, P> {
         requires latest { caller.old.part.latest ≡ Some (call_in call.call) }
         ensures number { caller.new.number ≡ caller.old.number }
         ensures ends { Finishes J.entries call.call caller.old.part result caller.new.part }
-        ensures rest { IsAtRest J.entries caller.new.part (left_by result) }
+        ensures rest { IsBetweenCalls J.entries caller.new.part (left_by result) }
     {
         let board = &self.entrance.board;
         let session = caller.number();
@@ -66,7 +66,7 @@ impl<J: Naming, G: Gate, D: CrashLog, P: CrashPages> Shared<J, G, D, P> {
         requires latest { caller.old.part.latest ≡ Some (call_in call.call) }
         ensures number { caller.new.number ≡ caller.old.number }
         ensures ends { Finishes J.entries call.call caller.old.part result caller.new.part }
-        ensures rest { IsAtRest J.entries caller.new.part (left_by result) }
+        ensures rest { IsBetweenCalls J.entries caller.new.part (left_by result) }
     {
         if !is_pending(self.entrance.board.out(&call.call).get()) {
             let Unfinished { txn: _, call } = call;
@@ -83,9 +83,9 @@ impl<J: Naming, G: Gate, D: CrashLog, P: CrashPages> Shared<J, G, D, P> {
         caller: &mut Caller<J>,
         unfinished: &mut Option<Unfinished>,
     ) -> Option<Ended>
-        requires rest { IsAtRest J.entries caller.old.part unfinished.old }
+        requires rest { IsBetweenCalls J.entries caller.old.part unfinished.old }
         ensures number { caller.new.number ≡ caller.old.number }
-        ensures rest { IsAtRest J.entries caller.new.part unfinished.new }
+        ensures rest { IsBetweenCalls J.entries caller.new.part unfinished.new }
         ensures none { IfNone result (IsSecond caller.old.part caller.new.part) }
         ensures ends { IfSome result (λ ended.
             Ends J.entries event.Begin caller.old.part ended caller.new.part) }
@@ -114,9 +114,9 @@ impl<J: Naming, G: Gate, D: CrashLog, P: CrashPages> Shared<J, G, D, P> {
         unfinished: &mut Option<Unfinished>,
         ask: Ask,
     ) -> Result<Ended, Refusal>
-        requires rest { IsAtRest J.entries caller.old.part unfinished.old }
+        requires rest { IsBetweenCalls J.entries caller.old.part unfinished.old }
         ensures number { caller.new.number ≡ caller.old.number }
-        ensures rest { IsAtRest J.entries caller.new.part unfinished.new }
+        ensures rest { IsBetweenCalls J.entries caller.new.part unfinished.new }
         ensures uncalled { IfErr result (λ r. IsUncalled caller.old.part r caller.new.part) }
         ensures ends { IfOk result (λ ended. (t : ℕ) × (caller.old.part.live ≡ Some t)
             × Ends J.entries (event_of t ask) caller.old.part ended caller.new.part) }
@@ -146,9 +146,9 @@ impl<J: Naming, G: Gate, D: CrashLog, P: CrashPages> Shared<J, G, D, P> {
         caller: &mut Caller<J>,
         unfinished: &mut Option<Unfinished>,
     ) -> Result<Ended, Refusal>
-        requires rest { IsAtRest J.entries caller.old.part unfinished.old }
+        requires rest { IsBetweenCalls J.entries caller.old.part unfinished.old }
         ensures number { caller.new.number ≡ caller.old.number }
-        ensures rest { IsAtRest J.entries caller.new.part unfinished.new }
+        ensures rest { IsBetweenCalls J.entries caller.new.part unfinished.new }
         ensures none { IfErr result (λ r.
             (r ≡ Refusal.Unsent) × IsClosed caller.old.part × (caller.new.part ≡ caller.old.part)) }
         ensures resumes { IfOk result (λ ended. Resumes J.entries caller.old.part ended caller.new.part) }

@@ -7,7 +7,7 @@ ghost use Rattle.node_laws.specs.Halves.{of_tc};
 ghost use Rattle.pool_journal.specs.Desks.{delivers};
 ghost use Rattle.pool_journal.specs.Sessions.{IsClosed};
 ghost use Rattle.pool_journal.specs.Slots.{Shown};
-ghost use Rattle.session_answers.specs.Answers.{Calls, IsUnasked, IsSecond};
+ghost use Rattle.session_answers.specs.Answers.{CallsUntold, IsUnasked, IsSecond};
 ghost use Rattle.session_answers.specs.Asking.{event_of};
 
 use crate::board::Board;
@@ -61,7 +61,7 @@ impl<J: Naming, D: CrashLog> Entrance<J, D> {
         ensures number { caller.new.number ≡ caller.old.number }
         ensures none { IfNone result (IsUnasked caller.old.part caller.new.part) }
         ensures calls { IfSome result (λ made. (caller.old.part.live ≡ Some made.txn)
-            × Calls J.entries (event_of made.txn ask) caller.old.part made.token caller.new.part) }
+            × CallsUntold J.entries (event_of made.txn ask) caller.old.part made.token caller.new.part) }
         ensures sent { IfSome result (λ made. IfSome made.sent (λ token. Shown J.entries token)) }
         ensures closed { IfNone result (IsClosed caller.new.part) }
     {
@@ -83,7 +83,7 @@ impl<J: Naming, D: CrashLog> Entrance<J, D> {
         ensures number { caller.new.number ≡ caller.old.number }
         ensures none { IfNone result (IsSecond caller.old.part caller.new.part) }
         ensures calls { IfSome result (λ token.
-            Calls J.entries event.Begin caller.old.part token caller.new.part) }
+            CallsUntold J.entries event.Begin caller.old.part token caller.new.part) }
         ensures closed { IfNone result (IsClosed caller.new.part) }
     {
         let Entrance { board, tc } = self;

@@ -2,7 +2,7 @@
 ghost use Rattle.std.specs.Prelude.{◌≡◌, None, IfErr, OnOk};
 ghost use Rattle.pool_journal.specs.Sessions.{calls};
 ghost use Rattle.session_answers.specs.Answers.{IsUncalled};
-ghost use Rattle.session_answers.specs.Unfinished.{IsAtRest};
+ghost use Rattle.session_answers.specs.Unfinished.{IsBetweenCalls};
 
 use crate::board::Board;
 use pool_journal::{Caller, Naming};
@@ -18,9 +18,9 @@ pub(crate) fn free<J: Naming, R: Wait>(
     caller: &mut Caller<J>,
     unfinished: &mut Option<Unfinished>,
 ) -> Result<(), Refusal>
-    requires rest { IsAtRest J.entries caller.old.part unfinished.old }
+    requires rest { IsBetweenCalls J.entries caller.old.part unfinished.old }
     ensures number { caller.new.number ≡ caller.old.number }
-    ensures rest { IsAtRest J.entries caller.new.part unfinished.new }
+    ensures rest { IsBetweenCalls J.entries caller.new.part unfinished.new }
     ensures calls { calls caller.new.part ≡ calls caller.old.part }
     ensures free { OnOk result ((caller.new.part ≡ caller.old.part) × (unfinished.new ≡ None)) }
     ensures barred { IfErr result (λ r. IsUncalled caller.old.part r caller.new.part) }

@@ -22,7 +22,7 @@ use Rattle.log_laws.proofs.Plain.{get-after}
 use Rattle.log_laws.proofs.Sharing.{share_adds}
 use Rattle.log_laws.proofs.Named.{unanswered_uncrossed}
 use Rattle.simulation.specs.View.{View, Doing, Ready, Awaits, Looks, Rolls, counts, is_to_undo, standing, HasStatusOf, HasSaves, HasSavesOf, HoldsAs, HasEntry, IsUntold, IsFreeOf, IsUnentered, IsRecorded, StandsFor}
-use Rattle.simulation.specs.Running.{Leads, after_answer, AnswerIsTold}
+use Rattle.simulation.specs.Running.{LeadsOn, after_answer, AnswerIsTold}
 use Rattle.simulation.proofs.Entries.{Agrees, Both, alike}
 use Rattle.simulation.proofs.Told.{losing_is, recorded_push}
 use Rattle.simulation.proofs.Carrying.{CarriesEntries, Passes, passes, txn_kept, one_changed, op_before, op_after, begun_so}
@@ -337,7 +337,7 @@ module _ (v : View) (m : Machine) (t n : ℕ) (a : Answer) (legal : IsLegal (is.
     no_entry (e ∷ h) (inl at) all = all.0 at.0
     no_entry (e ∷ h) (inr has) all = no_entry h has all.1
 
-    answers_so : Leads v m (TellsAnswer t a) (after_answer v t n a)
+    answers_so : LeadsOn v m (TellsAnswer t a) (after_answer v t n a)
     answers_so =
         let x = stands.each t in
         let new : Txn = record (m.txns t) { status = Open } in

@@ -14,7 +14,7 @@ use Rattle.log_laws.proofs.LegalLogs.{begun}
 use Rattle.log_laws.proofs.Strict.{end_ends, end_number}
 use Rattle.log_laws.proofs.Named.{unanswered_uncrossed}
 use Rattle.simulation.specs.View.{View, IsRecorded, HasStatusOf, counts, is_to_undo, standing, opened, StandsFor}
-use Rattle.simulation.specs.Lasting.{IsOwned, IsAtRest, IsSettledAt, AtRestByTheLog, OpenedIsAtRest}
+use Rattle.simulation.specs.Lasting.{IsOwned, IsLastAt, IsSettledAt, AtRestByTheLog, OpenedIsAtRest}
 use Rattle.simulation.proofs.Beginnings.{end_at, left_open, undone_wholly}
 use Rattle.simulation.proofs.Placing.{all_hist}
 use Rattle.simulation.proofs.Committing.{stable_is_committed}
@@ -90,7 +90,7 @@ module _ (v : View) (m : Machine) (k : Bytes) (legal : IsLegal v.log) (stands : 
           | inr commit ↦ true≢false (sym (end_ends v.log t commit.0 (inl commit.1)) ∙ so.0.open_txn.goes_on)
         ]
 
-    rests : IsAtRest m k
+    rests : IsLastAt m k
     rests = record { owners = all_owned m.h stands.recorded counted; unasked = nobody_asks }
 
 pub at_rest_by_the_log : AtRestByTheLog

@@ -16,7 +16,7 @@ use Rattle.log_laws.proofs.Records.{AnOp, at_newest, kept_at, op_step, op_same, 
 use Rattle.log_laws.proofs.LegalLogs.{op_number, begun_number, unanswered_next}
 use Rattle.log_laws.proofs.Named.{txn_below, open_begun}
 use Rattle.simulation.specs.View.{View, Doing, Ready, Awaits, counts, is_to_undo, HasStatusOf, HasSaves, HasSavesOf, HoldsAs, AreSpans, IsUntold, StandsFor, IsOverLost, IsFreeOf}
-use Rattle.simulation.specs.Running.{Leads, after_begin, after_act, BeginIsAStep, ActIsAStep}
+use Rattle.simulation.specs.Running.{LeadsOn, after_begin, after_act, BeginIsAStep, ActIsAStep}
 use Rattle.simulation.proofs.Entries.{Agrees, Both, alike}
 use Rattle.simulation.proofs.Told.{losing_is, recorded_push}
 use Rattle.simulation.proofs.Carrying.{Passes, passes, same_entries, txn_kept, one_changed, op_before, begun_so}
@@ -76,7 +76,7 @@ module _ (v : View) (m : Machine) (legal : IsLegal v.log) (stands : StandsFor v 
     waits = λ n o by d none. none;
   }
 
-  begins_so : Leads v m (Begins (length v.log + 1)) (after_begin v)
+  begins_so : LeadsOn v m (Begins (length v.log + 1)) (after_begin v)
   begins_so = (
     with_txn m new_txn blank,
     (next_above v m stands, refl),
@@ -168,7 +168,7 @@ module _ (v : View) (m : Machine) (t p : ℕ) (o : Op) (legal : IsLegal (is.Op t
     unentered_next : (h : List Entry) → AllByRecursion (λ e. e.number < act_number) h → IsFreeOf act_number h
     unentered_next h all = (free_next h all, over_next h all)
 
-    acts_so : Leads v m (Acts t o (length v.log + 1)) (after_act v t p o)
+    acts_so : LeadsOn v m (Acts t o (length v.log + 1)) (after_act v t p o)
     acts_so =
         let at = open_as v m t stands idle in
         let x = stands.each t in

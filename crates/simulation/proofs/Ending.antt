@@ -9,7 +9,7 @@ use Rattle.history.specs.Legal.{IsLegal, Stands}
 use Rattle.history.specs.ListMachine.{Machine, Txn, Open, Committing, Gone, Commits, TellsRolledBack, TellsBack, with_txn, ended}
 use Rattle.log_laws.proofs.Records.{record_new}
 use Rattle.simulation.specs.View.{View, Ready, Rolls, counts, is_to_undo, HasSavesOf, HoldsAs, IsUntold, StandsFor}
-use Rattle.simulation.specs.Running.{does, Leads, after_commit, after_rollback, CommitIsAStep, RolledBackIsTold, BackIsTold}
+use Rattle.simulation.specs.Running.{does, LeadsOn, after_commit, after_rollback, CommitIsAStep, RolledBackIsTold, BackIsTold}
 use Rattle.simulation.proofs.Entries.{Agrees, Both, Neither, alike}
 use Rattle.simulation.proofs.Crash.{crossed_out}
 use Rattle.simulation.proofs.Told.{recorded_push}
@@ -48,7 +48,7 @@ module _ (v : View) (m : Machine) (t : ℕ) (legal : IsLegal (is.Commit t ∷ v.
     waits = λ n q by d none. none;
   }
 
-  commits_so : Leads v m (Commits t) (after_commit v t)
+  commits_so : LeadsOn v m (Commits t) (after_commit v t)
   commits_so =
       let at = open_as v m t stands idle in
       let x = stands.each t in
@@ -119,7 +119,7 @@ module _ (v : View) (m : Machine) (t b : ℕ) (legal : IsLegal (is.End t ∷ v.l
     waits = λ n q by d none. none;
   }
 
-  ends_so : Leads v m (TellsRolledBack t) (after_rollback v t)
+  ends_so : LeadsOn v m (TellsRolledBack t) (after_rollback v t)
   ends_so =
       let at = rolling_as v m t None b stands rolls in
       let x = stands.each t in
@@ -181,7 +181,7 @@ module _ (v : View) (m : Machine) (t s b : ℕ) (stands : StandsFor v m) (rolls 
         ]
   ]
 
-  back_so : Leads v m (TellsBack t s) (does v t (Some Ready))
+  back_so : LeadsOn v m (TellsBack t s) (does v t (Some Ready))
   back_so =
       let at = rolling_as v m t (Some s) b stands rolls in
       let x = stands.each t in

@@ -7,7 +7,7 @@ use Rattle.history.specs.Spans.{Span}
 use Rattle.history.specs.Log.{is_crossed, IsOpBy}
 use Rattle.history.specs.ListMachine.{Query, OfKey, OfRange, asked_range, asked_span, Machine, Txn, Open, Reading, Reads, IsFree, with_txn, with_status}
 use Rattle.simulation.specs.View.{View, Doing, Ready, Looks, counts, is_to_undo, HasStatusOf, HasSavesOf, HoldsAs, AreSpans, IsUntold, IsTxnOf, StandsFor}
-use Rattle.simulation.specs.Running.{put, does, Leads, after_read, ReadIsAStep, RowIsTold, RowsAreTold}
+use Rattle.simulation.specs.Running.{put, does, LeadsOn, after_read, ReadIsAStep, RowIsTold, RowsAreTold}
 use Rattle.simulation.proofs.Entries.{Agrees, Both, alike}
 use Rattle.simulation.proofs.Carrying.{same_entries, txn_kept, one_changed}
 use Rattle.simulation.proofs.Doings.{put_same, put_other, open_as, status_for, carries_view}
@@ -51,7 +51,7 @@ module _ (v : View) (m : Machine) (t : ℕ) (stands : StandsFor v m) where
   below d e out n = ap (λ y. is_to_undo y n) e ∙ out n
 
   pub reads_so : (q : Query) → v.doing t ≡ Some Ready → HasKeys (asked_range q) → IsFree m t (asked_span q)
-      → Leads v m (Reads t q) (after_read v t q)
+      → LeadsOn v m (Reads t q) (after_read v t q)
   reads_so q idle range is_free =
       let at = open_as v m t stands idle in
       let x = stands.each t in

@@ -14,7 +14,7 @@ use Rattle.history.specs.Values.{is_on}
 use Rattle.history.specs.ListMachine.{Machine, Txn, Status, Open, Waiting, Reading, Rolling, Committing, Committed, Losing, Gone, Line, Begins, Acts, TellsAnswer, Reads, TellsRow, TellsRows, Saves, GoesBack, TellsBack, RollsBack, TellsRolledBack, Commits, TellsCommitted, Crashes, TellsLost, IsRefused, HasStatus, Falls, AreAllLeft, Survives, Step, Steps, with_txn, fallen}
 use Rattle.log_laws.proofs.Plain.{entry_leaves}
 use Rattle.log_laws.proofs.Statuses.{same_op}
-use Rattle.simulation.specs.Lasting.{HasCommitted, IsOwned, IsAtRest, ActsElsewhere, ValuesLast}
+use Rattle.simulation.specs.Lasting.{HasCommitted, IsOwned, IsLastAt, ActsElsewhere, ValuesLast}
 use Rattle.simulation.proofs.Entries.{marked, marked_all, fallen_all}
 use Rattle.simulation.proofs.Placing.{all_placed}
 use Rattle.simulation.proofs.Owning.{spared_by}
@@ -161,7 +161,7 @@ unmarked_before : (c b : Bool) → (c || b) ≡ false → c ≡ false
 unmarked_before true b e = e
 unmarked_before false b e = refl
 
-owners_step : (m n : Machine) (line : Line) (k : Bytes) → Step m line n → IsAtRest m k → Change m n
+owners_step : (m n : Machine) (line : Line) (k : Bytes) → Step m line n → IsLastAt m k → Change m n
     → AllByRecursion (IsOwned n k) n.h
 owners_step m n line k h rest (Stays same) =
     subst (AllByRecursion (IsOwned n k)) (sym same) (each_on m n line k m.h h rest.owners)
@@ -197,7 +197,7 @@ spares_each m k f [] spared all = tt
 spares_each m k f (e ∷ h) spared all =
     (λ stands on. spared e.txn e.number (all.0 stands on).1, spares_each m k f h spared all.1)
 
-value_step : (m n : Machine) (k : Bytes) → IsAtRest m k → Change m n → value_in k n.h ≡ value_in k m.h
+value_step : (m n : Machine) (k : Bytes) → IsLastAt m k → Change m n → value_in k n.h ≡ value_in k m.h
 value_step m n k rest (Stays same) = ap (value_in k) same
 value_step m n k rest (Places e waits same) =
     ap (value_in k) same ∙ placed_value k e m.h (rest.unasked e.txn e.number e.op waits)
@@ -217,7 +217,7 @@ WaitsNot _ = Unit {0}
 waits_not : (k : Bytes) (x : Txn) → WaitsNot x.status → WaitsElsewhere k x
 waits_not k x idle j o e = absurd (subst WaitsNot e idle)
 
-waits_with : (m n : Machine) (k : Bytes) (u : ℕ) (x : Txn) (g : List Entry) → IsAtRest m k → WaitsElsewhere k x
+waits_with : (m n : Machine) (k : Bytes) (u : ℕ) (x : Txn) (g : List Entry) → IsLastAt m k → WaitsElsewhere k x
     → n ≡ record (with_txn m u x) { h = g }
     → (t : ℕ) → WaitsElsewhere k (n.txns t)
 waits_with m n k u x g rest new is = subst (λ y. (t : ℕ) → WaitsElsewhere k (y.txns t)) (sym is) (λ t. pick t (t == u))
@@ -226,7 +226,7 @@ waits_with m n k u x g rest new is = subst (λ y. (t : ℕ) → WaitsElsewhere k
     pick t true = new
     pick t false = rest.unasked t
 
-still_with : (m n : Machine) (k : Bytes) (u : ℕ) (x : Txn) (g : List Entry) → IsAtRest m k → WaitsNot x.status
+still_with : (m n : Machine) (k : Bytes) (u : ℕ) (x : Txn) (g : List Entry) → IsLastAt m k → WaitsNot x.status
     → n ≡ record (with_txn m u x) { h = g }
     → (t : ℕ) → WaitsElsewhere k (n.txns t)
 still_with m n k u x g rest idle is = waits_with m n k u x g rest (waits_not k x idle) is
@@ -256,7 +256,7 @@ crash_waits m bound t Gone new fell is h =
       | inr falls ↦ falls_waits m bound t new falls.1
     ]
 
-waits_step : (m n : Machine) (line : Line) (k : Bytes) → Step m line n → ActsElsewhere k line → IsAtRest m k
+waits_step : (m n : Machine) (line : Line) (k : Bytes) → Step m line n → ActsElsewhere k line → IsLastAt m k
     → (t : ℕ) → WaitsElsewhere k (n.txns t)
 waits_step m n (Begins u) k h off rest = still_with m n k u _ _ rest tt h.1
 waits_step m n (Acts u o i) k h off rest =
@@ -279,11 +279,11 @@ waits_step m n (IsRefused call refusal) k h off rest =
     λ t. subst (λ y. WaitsElsewhere k (y.txns t)) (sym h.1) (rest.unasked t)
 
 values_in : (m n : Machine) (lines : List Line) (k : Bytes) → Steps m lines n → AllByRecursion (ActsElsewhere k) lines
-    → IsAtRest m k
+    → IsLastAt m k
     → value_in k n.h ≡ value_in k m.h
 values_in m n [] k steps off rest = ap (λ y. value_in k y.h) steps
 values_in m n (line ∷ lines) k steps off rest =
-    let next : IsAtRest steps.0 k = record {
+    let next : IsLastAt steps.0 k = record {
       owners = owners_step m steps.0 line k steps.1 rest (change m steps.0 line steps.1);
       unasked = waits_step m steps.0 line k steps.1 off.0 rest;
     } in

@@ -9,7 +9,7 @@ use Rattle.history.specs.History.{Entry, numbers_of}
 use Rattle.history.specs.Log.{is_crossed, IsOpBy, hist}
 use Rattle.history.specs.ListMachine.{Machine, Txn, Rolling, GoesBack, with_txn}
 use Rattle.simulation.specs.View.{View, Ready, Rolls, counts, is_to_undo, HasStatusOf, HasSaves, HasSavesOf, HoldsAs, HasEntry, Remembers, IsUntold, IsRecorded, StandsFor}
-use Rattle.simulation.specs.Running.{Leads, after_save, after_go_back, SaveIsAStep, GoBackIsAStep}
+use Rattle.simulation.specs.Running.{LeadsOn, after_save, after_go_back, SaveIsAStep, GoBackIsAStep}
 use Rattle.simulation.proofs.Entries.{as_entry, Agrees, Both, alike, filter_twice, marked, uncross_marked, marked_all, marked_falling, marked_entry}
 use Rattle.simulation.proofs.Carrying.{same_entries, txn_kept, one_changed}
 use Rattle.simulation.proofs.Doings.{put_same, put_other, open_as, carries_view, numbers_below}
@@ -224,7 +224,7 @@ module _ (v : View) (m : Machine) (t s end : ℕ) (stands : StandsFor v m) (idle
         (ap back.doing e ∙ put_same v.doing t (Some (Rolls (Some s) end))))
   ])
 
-  pub goes_back_so : Leads v m (GoesBack t s) (after_go_back v t s end)
+  pub goes_back_so : LeadsOn v m (GoesBack t s) (after_go_back v t s end)
   goes_back_so =
       let at = open_as v m t stands idle in
       let x = stands.each t in

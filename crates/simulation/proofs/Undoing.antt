@@ -13,7 +13,7 @@ use Rattle.history.specs.ListMachine.{Machine, Txn, Rolling, Losing, RollsBack, 
 use Rattle.log_laws.proofs.Records.{op_same}
 use Rattle.log_laws.proofs.LegalLogs.{op_number}
 use Rattle.simulation.specs.View.{View, Doing, Ready, Awaits, Rolls, counts, is_to_undo, HasStatusOf, HoldsAs, IsUntold, IsRecorded, StandsFor}
-use Rattle.simulation.specs.Running.{does, Leads, RollbackIsAStep, CompIsNoStep, UndoneIsNoStep}
+use Rattle.simulation.specs.Running.{does, LeadsOn, RollbackIsAStep, CompIsNoStep, UndoneIsNoStep}
 use Rattle.simulation.proofs.Entries.{as_entry, Agrees, Both, Neither, alike, filter_twice, marked, uncross_marked, marked_all, marked_falling, marked_entry, marked_over}
 use Rattle.simulation.proofs.Crash.{loses_out}
 use Rattle.simulation.proofs.Told.{losing_is, recorded_push}
@@ -63,7 +63,7 @@ module _ (v : View) (m : Machine) (t : ℕ) (stands : StandsFor v m) (idle : v.d
         ∙ lt-ltb 0 n (op_number v.log n u q by).positive))
   ]
 
-  rolls_so : Leads v m (RollsBack t) (does v t (Some (Rolls None 0)))
+  rolls_so : LeadsOn v m (RollsBack t) (does v t (Some (Rolls None 0)))
   rolls_so =
       let at = open_as v m t stands idle in
       let x = stands.each t in

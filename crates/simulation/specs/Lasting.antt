@@ -83,7 +83,7 @@ abbrev pub IsOwned : Machine → Bytes → Entry → Type 0
 IsOwned m k e = e.crossed ≡ false → key_of e.op ≡ k → ((m.txns e.txn).begun ≡ true) × HasStatus m e.txn Committed
 
 -- all entries that stand at the key are of committed transactions, and nobody waits for an operation on it
-pub record IsAtRest (m : Machine) (k : Bytes) : Type 0 where
+pub record IsLastAt (m : Machine) (k : Bytes) : Type 0 where
   pub owners : AllByRecursion (IsOwned m k) m.h
   pub unasked : (t n : ℕ) (o : Op) → HasStatus m t (Waiting n o) → key_of o ≢ k
 
@@ -96,7 +96,7 @@ ActsElsewhere k _ = Unit {0}
 abbrev pub ValuesLast : Type 0
 ValuesLast =
     (m n : Machine) (lines : List Line) (k : Bytes) → Steps m lines n → AllByRecursion (ActsElsewhere k) lines
-    → IsAtRest m k
+    → IsLastAt m k
     → get (plain n.h) k ≡ get (plain m.h) k
 
 -- whoever did what isn't undone at the key loses, or has a stable Commit
@@ -108,8 +108,8 @@ IsSettledAt v k =
 -- then the key is at rest
 abbrev pub AtRestByTheLog : Type 0
 AtRestByTheLog =
-    (v : View) (m : Machine) (k : Bytes) → IsLegal v.log → StandsFor v m → IsSettledAt v k → IsAtRest m k
+    (v : View) (m : Machine) (k : Bytes) → IsLegal v.log → StandsFor v m → IsSettledAt v k → IsLastAt m k
 
 -- so each is when the component is opened
 abbrev pub OpenedIsAtRest : Type 0
-OpenedIsAtRest = (log : List Record) (m : Machine) (k : Bytes) → IsLegal log → StandsFor (opened log) m → IsAtRest m k
+OpenedIsAtRest = (log : List Record) (m : Machine) (k : Bytes) → IsLegal log → StandsFor (opened log) m → IsLastAt m k

@@ -22,8 +22,8 @@ abbrev pub does : View → ℕ → Option Doing → View
 does v t d = record v { doing = put v.doing t d }
 
 -- the machine may give the line, and then the component stands so for a machine that it leaves
-abbrev pub Leads : View → Machine → Line → View → Type 0
-Leads v m line w = (n : Machine) × Step m line n × StandsFor w n
+abbrev pub LeadsOn : View → Machine → Line → View → Type 0
+LeadsOn v m line w = (n : Machine) × Step m line n × StandsFor w n
 
 abbrev pub after_begin : View → View
 after_begin v = record v {
@@ -35,7 +35,7 @@ after_begin v = record v {
 
 abbrev pub BeginIsAStep : Type 0
 BeginIsAStep = (v : View) (m : Machine) → IsLegal v.log → StandsFor v m
-    → Leads v m (Begins (length v.log + 1)) (after_begin v)
+    → LeadsOn v m (Begins (length v.log + 1)) (after_begin v)
 
 abbrev pub after_act : View → ℕ → ℕ → Op → View
 after_act v t p o = record v {
@@ -48,7 +48,7 @@ abbrev pub ActIsAStep : Type 0
 ActIsAStep =
     (v : View) (m : Machine) (t p : ℕ) (o : Op) → IsLegal (is.Op t p o ∷ v.log) → StandsFor v m → v.doing t ≡ Some Ready
     → IsFree m t (changed_span o)
-    → Leads v m (Acts t o (length v.log + 1)) (after_act v t p o)
+    → LeadsOn v m (Acts t o (length v.log + 1)) (after_act v t p o)
 
 abbrev pub after_commit : View → ℕ → View
 after_commit v t = record v { log = is.Commit t ∷ v.log; doing = put v.doing t None }
@@ -57,12 +57,12 @@ abbrev pub CommitIsAStep : Type 0
 CommitIsAStep =
     (v : View) (m : Machine) (t : ℕ) → IsLegal (is.Commit t ∷ v.log) → StandsFor v m → v.doing t ≡ Some Ready
     → v.stable ≤ length v.log
-    → Leads v m (Commits t) (after_commit v t)
+    → LeadsOn v m (Commits t) (after_commit v t)
 
 abbrev pub RollbackIsAStep : Type 0
 RollbackIsAStep =
     (v : View) (m : Machine) (t : ℕ) → StandsFor v m → v.doing t ≡ Some Ready
-    → Leads v m (RollsBack t) (does v t (Some (Rolls None 0)))
+    → LeadsOn v m (RollsBack t) (does v t (Some (Rolls None 0)))
 
 -- a compensation of what a rollback is to undo, or of a loser's operation, is no step
 abbrev pub CompIsNoStep : Type 0
@@ -84,13 +84,13 @@ after_rollback v t = record v { log = is.End t ∷ v.log; doing = put v.doing t 
 abbrev pub RolledBackIsTold : Type 0
 RolledBackIsTold =
     (v : View) (m : Machine) (t b : ℕ) → IsLegal (is.End t ∷ v.log) → StandsFor v m → v.doing t ≡ Some (Rolls None b)
-    → Leads v m (TellsRolledBack t) (after_rollback v t)
+    → LeadsOn v m (TellsRolledBack t) (after_rollback v t)
 
 abbrev pub BackIsTold : Type 0
 BackIsTold =
     (v : View) (m : Machine) (t s b : ℕ) → StandsFor v m → v.doing t ≡ Some (Rolls (Some s) b)
     → ((n : ℕ) → Stands v.log t n → n ≤ b)
-    → Leads v m (TellsBack t s) (does v t (Some Ready))
+    → LeadsOn v m (TellsBack t s) (does v t (Some Ready))
 
 -- an answer comes: where all answers of the log are right, the client is told that of the machine
 abbrev pub after_answer : View → ℕ → ℕ → Answer → View
@@ -100,7 +100,7 @@ abbrev pub AnswerIsTold : Type 0
 AnswerIsTold =
     (v : View) (m : Machine) (t n : ℕ) (a : Answer) → IsLegal (is.Answer n a ∷ v.log)
     → HasRightAnswers (is.Answer n a ∷ v.log) → StandsFor v m
-    → v.doing t ≡ Some (Awaits n) → Leads v m (TellsAnswer t a) (after_answer v t n a)
+    → v.doing t ≡ Some (Awaits n) → LeadsOn v m (TellsAnswer t a) (after_answer v t n a)
 
 abbrev pub after_save : View → ℕ → View
 after_save v t = record v { saves = put v.saves t (v.saves t ++ length v.log ∷ []) }
@@ -108,7 +108,7 @@ after_save v t = record v { saves = put v.saves t (v.saves t ++ length v.log ∷
 abbrev pub SaveIsAStep : Type 0
 SaveIsAStep =
     (v : View) (m : Machine) (t s : ℕ) → StandsFor v m → v.doing t ≡ Some Ready → length (v.saves t) + 1 ≡ s → s ≤ 16
-    → Leads v m (Saves t s) (after_save v t)
+    → LeadsOn v m (Saves t s) (after_save v t)
 
 abbrev pub after_go_back : View → ℕ → ℕ → ℕ → View
 after_go_back v t s end = record v {
@@ -120,7 +120,7 @@ abbrev pub GoBackIsAStep : Type 0
 GoBackIsAStep =
     (v : View) (m : Machine) (t s end : ℕ) → StandsFor v m → v.doing t ≡ Some Ready → 1 ≤ s
     → slice_get (v.saves t) (s - 1) ≡ Some end
-    → Leads v m (GoesBack t s) (after_go_back v t s end)
+    → LeadsOn v m (GoesBack t s) (after_go_back v t s end)
 
 -- a read, and what it tells
 abbrev pub after_read : View → ℕ → Query → View
@@ -130,17 +130,17 @@ abbrev pub ReadIsAStep : Type 0
 ReadIsAStep =
     (v : View) (m : Machine) (t : ℕ) (q : Query) → StandsFor v m → v.doing t ≡ Some Ready → HasKeys (asked_range q)
     → IsFree m t (asked_span q)
-    → Leads v m (Reads t q) (after_read v t q)
+    → LeadsOn v m (Reads t q) (after_read v t q)
 
 abbrev pub RowIsTold : Type 0
 RowIsTold =
     (v : View) (m : Machine) (t : ℕ) (k : Bytes) (value : Option Bytes) → StandsFor v m
     → v.doing t ≡ Some (Looks (OfKey k)) → value ≡ get (plain m.h) k
-    → Leads v m (TellsRow t value) (does v t (Some Ready))
+    → LeadsOn v m (TellsRow t value) (does v t (Some Ready))
 
 abbrev pub RowsAreTold : Type 0
 RowsAreTold =
     (v : View) (m : Machine) (t : ℕ) (lo : Bytes) (hi : Option Bytes) (rows : List (Bytes × Bytes)) → StandsFor v m
     → v.doing t ≡ Some (Looks (OfRange lo hi))
     → rows ≡ rows_in (asked_range (OfRange lo hi)) (plain m.h)
-    → Leads v m (TellsRows t rows) (does v t (Some Ready))
+    → LeadsOn v m (TellsRows t rows) (does v t (Some Ready))

@@ -18,7 +18,7 @@ use Rattle.page.specs.Tiles.{parts_of, TileFrom}
 use Rattle.recovery_laws.specs.Laws.{IsIn}
 use Rattle.page.proofs.Starts.{no_parts}
 use Rattle.recovery_laws.proofs.Splitting.{Rest}
-use Rattle.system_txn.specs.Arranging.{is_same_fence, ends_after, tiles_on, count_of, AreApart, AreSame, IsArrangement}
+use Rattle.system_txn.specs.Arranging.{is_same_fence, ends_after, tiles_on, count_of, HaveOwnNumbers, AreSame, IsArrangement}
 use Rattle.system_txn.proofs.InOrder.{Rise, sorted_same}
 
 same_fence : (a b : Option Bytes) → is_same_fence a b ≡ true → b ≡ a
@@ -109,8 +109,8 @@ count_sum : (id : ℕ) (xs : List LeafView) → count_of id xs ≡ sum_by (one i
 count_sum id [] = refl
 count_sum id (x ∷ xs) = ap (λ (n : ℕ). one id x + n) (count_sum id xs) ∙ sym (sum_by-cons (one id) x xs)
 
-still_apart : (xs ys : List (Box LeafView Global)) → IsPermutation xs ys → AreApart (leaves_in xs)
-    → AreApart (leaves_in ys)
+still_apart : (xs ys : List (Box LeafView Global)) → IsPermutation xs ys → HaveOwnNumbers (leaves_in xs)
+    → HaveOwnNumbers (leaves_in ys)
 still_apart xs ys moves apart id =
     let leaves : IsPermutation (leaves_in xs) (leaves_in ys) = IsPermutation-map leaf_of xs ys moves in
     let same : sum_by (one id) (leaves_in ys) ≡ sum_by (one id) (leaves_in xs) =
@@ -118,7 +118,7 @@ still_apart xs ys moves apart id =
     subst (λ (n : ℕ). n ≤ 1) (count_sum id (leaves_in xs) ∙ sym same ∙ sym (count_sum id (leaves_in ys))) (apart id)
 
 -- where sorted leaves don't pass the test, no order of them has all keys
-pub none_tile : (xs ys : List (Box LeafView Global)) → IsPermutation xs ys → AreApart (leaves_in xs)
+pub none_tile : (xs ys : List (Box LeafView Global)) → IsPermutation xs ys → HaveOwnNumbers (leaves_in xs)
     → Rise (leaves_in ys) → tiles_on true None (leaves_in ys) ≡ false
     → (row : List LeafView) → IsArrangement (leaves_in xs) row → ⊥
 none_tile xs ys moves apart rise fails row is =

@@ -28,7 +28,7 @@ use Rattle.recovery_laws.specs.Leaves.{split_of, merge_of}
 use Rattle.recovery_laws.specs.Ready.{IsLow, IsReady}
 use Rattle.recovery_laws.proofs.Ready.{ready_stays}
 use Rattle.stable.specs.Usage.{Usage, called}
-use Rattle.system_txn.specs.SystemView.{SystemView, fresh, with_usage, log_refused}
+use Rattle.system_txn.specs.SystemView.{SystemView, fresh_system, with_usage, log_refused}
 use Rattle.system_txn.specs.Changes.{next_id, next_number, leaf_in, split_to, merged_to, accepted, covered, forced, lowered, taken_back, written_to, written_all}
 use Rattle.system_txn.specs.Checked.{IsChecked, Checks}
 use Rattle.system_txn.specs.Crashed.{crashed}
@@ -54,7 +54,7 @@ low_grows v l =
 
 -- ---- nothing is asked of low numbers at the start
 
-pub fresh_checked : (log_usage page_usage : Usage) → IsChecked 0 (fresh log_usage page_usage)
+pub fresh_checked : (log_usage page_usage : Usage) → IsChecked 0 (fresh_system log_usage page_usage)
 fresh_checked log_usage page_usage = record {
   leaves = (omega arith, tt);
   ready = (ready_stays (IsLow 0)).all _ [] 0 (record {

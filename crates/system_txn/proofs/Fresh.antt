@@ -11,7 +11,7 @@ use Rattle.page.specs.Leaf.{IsLeaf, first}
 use Rattle.btree.specs.Leaves.{AreLeaves}
 use Rattle.recovery_laws.proofs.Images.{numbers_stay}
 use Rattle.system_txn.specs.Kept.{IsSystem}
-use Rattle.system_txn.specs.SystemView.{fresh}
+use Rattle.system_txn.specs.SystemView.{fresh_system}
 
 no_rows : table.entries first.rows ≡ []
 no_rows =
@@ -27,7 +27,7 @@ first_alone = record { each = (first_kept, tt); tile = (refl, refl) }
 pub no_page : (id : ℕ) (pages : Pages) → pages ≡ table.empty → table.get pages id ≡ None
 no_page id pages none = ap (λ (m : Pages). table.get m id) none ∙ table.get-empty nat_cmp id
 
-pub fresh_kept : (log_usage page_usage : Usage) → IsSystem (fresh log_usage page_usage)
+pub fresh_kept : (log_usage page_usage : Usage) → IsSystem (fresh_system log_usage page_usage)
 fresh_kept log_usage page_usage = record {
   leaves = first_alone;
   numbers = (numbers_stay.first, tt);

@@ -11,7 +11,7 @@ use Rattle.recovery_laws.specs.Laws.{IsIn, IsArranged}
 use Rattle.recovery_laws.specs.Ready.{AreReadable}
 use Rattle.recovery_laws.specs.Recovery.{recovered}
 use Rattle.recovery_laws.specs.Shape.{named}
-use Rattle.system_txn.specs.Arranging.{count_of, AreApart, IsArrangement}
+use Rattle.system_txn.specs.Arranging.{count_of, HaveOwnNumbers, IsArrangement}
 use Rattle.system_txn.specs.Devices.{AreRecords, pages_of}
 use Rattle.system_txn.specs.Finding.{AreRecovered}
 use Rattle.system_txn.specs.Recovering.{AreOwnPages}
@@ -120,7 +120,7 @@ module _ (pages : Pages) (log : List DcRecord) (slots : List Slot) (g : IsGather
       ap (recovered (pages_of pages) log) (good on.id leaf is).own ∙ is
 
   -- no two have one number
-  pub gathered_apart : AreApart (leaves_in (boxes_on slots))
+  pub gathered_apart : HaveOwnNumbers (leaves_in (boxes_on slots))
   gathered_apart id =
       (counted slots 0 id
       (λ k leaf is. (good k leaf (here k leaf (within_on slots k leaf is) is)).own ∙ omega arith)).once

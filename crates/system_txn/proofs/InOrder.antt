@@ -13,7 +13,7 @@ use Rattle.recovery_laws.specs.Laws.{IsIn}
 use Rattle.recovery_laws.proofs.Arranged.{IsFrom, later, all_from, same_rest}
 use Rattle.page.proofs.Starts.{no_parts}
 use Rattle.recovery_laws.proofs.Splitting.{Rest}
-use Rattle.system_txn.specs.Arranging.{count_of, AreApart}
+use Rattle.system_txn.specs.Arranging.{count_of, HaveOwnNumbers}
 
 -- one fence is below another; where there is none it is below each key
 abbrev pub fence_below : Option Bytes → Option Bytes → Bool
@@ -77,10 +77,10 @@ counted z (x ∷ xs) (inl e) =
     rw here (omega arith)
 counted z (x ∷ xs) (inr at) = omega (arith, counted z xs at)
 
-apart_tail : (x : LeafView) (xs : List LeafView) → AreApart (x ∷ xs) → AreApart xs
+apart_tail : (x : LeafView) (xs : List LeafView) → HaveOwnNumbers (x ∷ xs) → HaveOwnNumbers xs
 apart_tail x xs apart id = omega (arith, apart id)
 
-not_twice : (x z : LeafView) (xs : List LeafView) → AreApart (x ∷ xs) → z ≡ x → IsIn z xs → ⊥
+not_twice : (x z : LeafView) (xs : List LeafView) → HaveOwnNumbers (x ∷ xs) → z ≡ x → IsIn z xs → ⊥
 not_twice x z xs apart e at =
     let here : (x.id == z.id) ≡ true = eq-eqb x.id z.id (ap (λ (l : LeafView). l.id) (sym e)) in
     let twice : 1 + count_of z.id xs ≤ 1 = rw here at (apart z.id) in
@@ -99,7 +99,7 @@ same_after low None xs ys same back r =
 same_after low (Some h) xs ys same back r = same h r.1
 
 -- leaves that tile the keys stand in the order of their low fences
-pub sorted_same : (xs ys : List LeafView) (from : Option Bytes) → TileFrom from (parts_of xs) → Rise ys → AreApart ys
+pub sorted_same : (xs ys : List LeafView) (from : Option Bytes) → TileFrom from (parts_of xs) → Rise ys → HaveOwnNumbers ys
     → ((z : LeafView) → IsIn z xs → IsIn z ys)
     → ((z : LeafView) → IsIn z ys → IsIn z xs) → xs ≡ ys
 sorted_same [] ys from tile rise apart to back = absurd tile

@@ -26,7 +26,7 @@ use Rattle.recovery_laws.specs.Recovery.{FitPages}
 use Rattle.recovery_laws.proofs.Fitting.{fit_stays}
 use Rattle.recovery_laws.proofs.Leaves.{leaves_are_the_shapes}
 use Rattle.stable.specs.Usage.{Usage, called}
-use Rattle.system_txn.specs.SystemView.{SystemView, fresh, with_usage, log_refused}
+use Rattle.system_txn.specs.SystemView.{SystemView, fresh_system, with_usage, log_refused}
 use Rattle.system_txn.specs.Changes.{accepted, covered, forced, lowered, taken_back, written_to, written_all}
 use Rattle.system_txn.specs.Devices.{pages_of, page_in}
 use Rattle.system_txn.specs.Gives.{Splits, Merges, SplitGives, MergeGives, Tending, SplitsAt, MergesAt, Rests, tending, TendsTo, TendGives, FlushGives, CheckpointGives, AcceptGives, HaveImages, StopsNotNow, StopsTending, FailsWriting, FailsAmong}
@@ -40,7 +40,7 @@ use Rattle.system_txn.proofs.Written.{pages_written}
 
 -- ---- one leaf, and nothing written
 
-pub recoverable_fresh : (log_usage page_usage : Usage) → IsRecoverable (fresh log_usage page_usage)
+pub recoverable_fresh : (log_usage page_usage : Usage) → IsRecoverable (fresh_system log_usage page_usage)
 recoverable_fresh log_usage page_usage = record {
   legal = tt;
   current = leaves_are_the_shapes.start;

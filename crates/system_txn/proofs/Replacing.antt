@@ -10,7 +10,7 @@ use Rattle.page.specs.TakingBack.{taken_back}
 use Rattle.page.specs.Tops.{top, is_within}
 use Rattle.page.proofs.UpTo.{AreUpTo, all_stay, none_back}
 use Rattle.btree.proofs.Raising.{each_below, each_all, each_next}
-use Rattle.system_txn.specs.Replacing.{replaced, Fits, AllFit}
+use Rattle.system_txn.specs.Replacing.{replaced, FitsFences, AllFit}
 use Rattle.system_txn.specs.declared.taking_back.Replacement.{Replacement}
 
 -- ---- a leaf without an entry above the end
@@ -72,7 +72,7 @@ module _ (end p : ℕ) (leaves : List LeafView) (leaf : LeafView) (rs : List Rep
   copy_taken copy is =
       let r : Replacement = record { place = p; leaf = copy } in
       let is_back : copy.value ≡ back (get_or leaves p first) = is ∙ ap back at in (
-        all_appended (Fits leaves) rs (r ∷ []) so_far.0 (
+        all_appended (FitsFences leaves) rs (r ∷ []) so_far.0 (
           record {
             there = there;
             low = ap (λ (l : LeafView). l.low_fence) is_back;

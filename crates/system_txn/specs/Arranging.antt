@@ -32,8 +32,8 @@ count_of id [] = 0
 count_of id (leaf ∷ leaves) = (if leaf.id == id then 1 else 0) + count_of id leaves
 
 -- no two leaves have one number
-abbrev pub AreApart : List LeafView → Type 0
-AreApart leaves = (id : ℕ) → count_of id leaves ≤ 1
+abbrev pub HaveOwnNumbers : List LeafView → Type 0
+HaveOwnNumbers leaves = (id : ℕ) → count_of id leaves ≤ 1
 
 -- the same leaves, maybe in another order
 pub record AreSame (old new : List LeafView) : Type 0 where

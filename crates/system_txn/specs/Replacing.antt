@@ -9,10 +9,10 @@ replaced leaves [] = leaves
 replaced leaves (r ∷ rs) = replaced (set leaves r.place r.leaf.value) rs
 
 -- there is a leaf at its place, with the same fences
-pub record Fits (leaves : List LeafView) (r : Replacement) : Type 0 where
+pub record FitsFences (leaves : List LeafView) (r : Replacement) : Type 0 where
   pub there : r.place < length leaves
   pub low : r.leaf.value.low_fence ≡ (get_or leaves r.place first).low_fence
   pub high : r.leaf.value.high_fence ≡ (get_or leaves r.place first).high_fence
 
 abbrev pub AllFit : List LeafView → List Replacement → Type 0
-AllFit leaves rs = AllByRecursion (Fits leaves) rs
+AllFit leaves rs = AllByRecursion (FitsFences leaves) rs

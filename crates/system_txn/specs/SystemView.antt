@@ -26,8 +26,8 @@ abbrev pub pages_code : Coded Pages
 pages_code = map.code coded_ℕ (coded_list coded_ℕ)
 
 -- one leaf for all keys, nothing logged and nothing written
-abbrev pub fresh : Usage → Usage → SystemView
-fresh log_usage page_usage = record {
+abbrev pub fresh_system : Usage → Usage → SystemView
+fresh_system log_usage page_usage = record {
   leaves = first ∷ [];
   log = [];
   stable = 0;

@@ -3,7 +3,7 @@ ghost use Rattle.std.specs.Prelude.{◌≡◌, ◌&&◌, Bool, List, true, false
 ghost use Rattle.std.specs.Option.{option_copied};
 ghost use Rattle.page.specs.Leaf.{LeafView};
 ghost use Rattle.btree.specs.Lists.{leaves_in};
-ghost use Rattle.system_txn.specs.Arranging.{is_same_fence, ends_after, tiles_on, AreApart, IsArrangement};
+ghost use Rattle.system_txn.specs.Arranging.{is_same_fence, ends_after, tiles_on, HaveOwnNumbers, IsArrangement};
 
 use page::Leaf;
 use record_key::{Key, Refusal};
@@ -11,7 +11,7 @@ use record_key::{Key, Refusal};
 /// The leaves, of which no two have one number, in key order. Refused BadBytes at 0 where in no order they have all
 /// keys among them, just once.
 pub(crate) fn arrange(mut leaves: Vec<Box<Leaf>>) -> Result<Vec<Box<Leaf>>, Refusal>
-    requires { AreApart (leaves_in leaves.items) }
+    requires { HaveOwnNumbers (leaves_in leaves.items) }
     ensures arranged { IfOk result (λ row. IsArrangement (leaves_in leaves.items) (leaves_in row.items)) }
     ensures none { OnErr result ((row : List LeafView) → IsArrangement (leaves_in leaves.items) row → ⊥) }
     ensures refused { IfErr result (λ refusal. refusal ≡ Refusal.BadBytes 0) }

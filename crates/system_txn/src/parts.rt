@@ -5,7 +5,7 @@ ghost use Rattle.record_key.specs.Table.{key_of};
 ghost use Rattle.ab_lsn.specs.AbLsn.{captures};
 ghost use Rattle.btree.specs.Leaves.{leaf_at};
 ghost use Rattle.btree.specs.Performs.{PerformsAt};
-ghost use Rattle.system_txn.specs.SystemView.{fresh};
+ghost use Rattle.system_txn.specs.SystemView.{fresh_system};
 ghost use Rattle.system_txn.specs.Changes.{lowered};
 ghost use Rattle.system_txn.specs.Gives.{append_refusal};
 ghost use Rattle.system_txn.specs.Kept.{IsSystem};
@@ -37,7 +37,7 @@ impl<L: LeafSet, D: LogDevice, P: PageDevice> Parts<L, D, P> {
         requires no_pages { P.pages pages ≡ map.empty }
         ensures kept { IfOk result (λ parts. IsSystem (seen L.leaves P.pages P.usage parts)) }
         ensures fresh { IfOk result (λ parts.
-            seen L.leaves P.pages P.usage parts ≡ fresh (D.usage log) (P.usage pages)) }
+            seen L.leaves P.pages P.usage parts ≡ fresh_system (D.usage log) (P.usage pages)) }
         ensures refused { IfErr result (λ left. left.refusal ≡ Refusal.NoMemory) }
         ensures same_log { IfErr result (λ left. left.devices.log ≡ log) }
         ensures same_pages { IfErr result (λ left. left.devices.pages ≡ pages) }

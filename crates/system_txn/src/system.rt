@@ -10,7 +10,7 @@ ghost use Rattle.record_key.specs.Order.{rows_in};
 ghost use Rattle.btree.specs.Leaves.{leaf_at, place_at, rows_of};
 ghost use Rattle.btree.specs.Performs.{PerformsAt};
 ghost use Rattle.framed_log.specs.Beginning.{beginning};
-ghost use Rattle.system_txn.specs.SystemView.{fresh, failing_at};
+ghost use Rattle.system_txn.specs.SystemView.{fresh_system, failing_at};
 ghost use Rattle.system_txn.specs.Devices.{spelled};
 ghost use Rattle.system_txn.specs.Changes.{lowered};
 ghost use Rattle.system_txn.specs.Gives.{append_refusal, SplitGives, MergeGives, TendGives};
@@ -54,7 +54,7 @@ impl<L: LeafSet, D: LogDevice, P: PageDevice> SystemTxns<L, D, P> {
     pub fn new(alloc: Global, log: D, pages: P) -> Result<SystemTxns<L, D, P>, Refused<D, P>>
         requires no_log { (D.forced log ≡ []) × (D.pending log ≡ []) }
         requires no_pages { P.pages pages ≡ map.empty }
-        ensures fresh { IfOk result (λ system. system ≡ fresh (D.usage log) (P.usage pages)) }
+        ensures fresh { IfOk result (λ system. system ≡ fresh_system (D.usage log) (P.usage pages)) }
         ensures refused { IfErr result (λ left. left.refusal ≡ Refusal.NoMemory) }
         ensures same_log { IfErr result (λ left. left.devices.log ≡ log) }
         ensures same_pages { IfErr result (λ left. left.devices.pages ≡ pages) }

@@ -9,7 +9,7 @@ use Rattle.record_key.proofs.Lists.{all_from, all_appended}
 use Rattle.record_key.proofs.Tables.{is_same, is_same-true}
 use Rattle.inverse.specs.Inverse.{PassBy}
 use Rattle.page.proofs.Halves.{all_kept}
-use Rattle.take_back_laws.specs.Performed.{Performance, AreAnswered}
+use Rattle.take_back_laws.specs.Performed.{Performance, AreAnsweredInPlace}
 use Rattle.take_back_laws.specs.Listed.{kept, IsListed, IsOnce, AreOlder, FallOn, KeptAreAnswered}
 use Rattle.take_back_laws.proofs.Performed.{answered_without}
 use Rattle.take_back_laws.proofs.AtKey.{not_same}
@@ -80,7 +80,7 @@ rest end p ps a newer =
     all_from (IsNewer end (p ∷ ps)) (IsNewer end ps) (λ (q : Performance) is. (is.0, is.1.1)) a newer
 
 along : (opened : Table) (end : ℕ) (a ps : List Performance) → AllByRecursion (IsNewer end ps) a
-    → ((k : Bytes) → FallOn k ps) → AreAnswered opened (a ++ ps) → AreAnswered opened (a ++ kept end ps)
+    → ((k : Bytes) → FallOn k ps) → AreAnsweredInPlace opened (a ++ ps) → AreAnsweredInPlace opened (a ++ kept end ps)
 along opened end a [] newer falls answered = answered
 along opened end a (p ∷ ps) newer falls answered =
     elim (cases_lt end p.number) [
@@ -92,11 +92,11 @@ along opened end a (p ∷ ps) newer falls answered =
           (λ (q : Performance) is. passes end p q ps over is) a newer) answered))
       | inr within ↦
           rw (le-ltb end p.number within)
-          (subst (AreAnswered opened) (append_assoc a (p ∷ []) (kept end ps))
+          (subst (AreAnsweredInPlace opened) (append_assoc a (p ∷ []) (kept end ps))
           (along opened end (a ++ p ∷ []) ps
           (all_appended (IsNewer end ps) a (p ∷ []) (rest end p ps a newer)
           ((within, (falls (key_of p.op)).0 refl), tt)) (λ k. (falls k).1)
-          (subst (AreAnswered opened) (sym (append_assoc a (p ∷ []) ps)) answered)))
+          (subst (AreAnsweredInPlace opened) (sym (append_assoc a (p ∷ []) ps)) answered)))
     ]
 
 pub answered_kept : KeptAreAnswered

@@ -13,7 +13,7 @@ use Rattle.record_key.proofs.Tables.{is_same, is_same-true, get-with_record_same
 use Rattle.inverse.specs.Inverse.{undo_of}
 use Rattle.ab_lsn.proofs.Rising.{filtered_rises}
 use Rattle.page.proofs.Undoing.{undone_value, value_back}
-use Rattle.take_back_laws.specs.Performed.{Performance, replayed, AreAnswered}
+use Rattle.take_back_laws.specs.Performed.{Performance, replayed, AreAnsweredInPlace}
 use Rattle.take_back_laws.specs.Listed.{kept, IsListed, IsSaved, IsOnce, AreOlder, FallOn, TakenIsReplayed}
 use Rattle.take_back_laws.proofs.AtKey.{not_same, back_on, rows_at, AllCounted, none_on, IfAdd, add_undone, PassesBy, past_all, minus, first_back}
 
@@ -27,7 +27,7 @@ after_off R o k off = get-with_record_other R (key_of o) k (value_after o (get R
 
 -- an entry of an older one that isn't below it is an Add's, and so is it
 listed_adds : (opened : Table) (k : Bytes) (p : Performance) (ps : List Performance) (e : Entry) → e.key ≡ k
-    → p.number ≤ e.number → AreAnswered opened ps → AreOlder k p ps → IsListed ps e
+    → p.number ≤ e.number → AreAnsweredInPlace opened ps → AreOlder k p ps → IsListed ps e
     → (is_add p.op ≡ true) × IfAdd (undo_of k e.answer)
 listed_adds opened k p [] e on le answered older has = absurd has
 listed_adds opened k p (q ∷ ps) e on le answered older (inl here) =
@@ -78,7 +78,7 @@ saved_rest es end n k (q ∷ ps) apart all =
     (λ on over. saved_minus n q es apart.0 (all.0 on over), saved_rest es end n k ps apart.1 all.1)
 
 module _ (opened : Table) (k : Bytes) (end : ℕ) (p : Performance) (ps : List Performance) (es : List Entry)
-    (answered : AreAnswered opened (p ∷ ps)) (falls : FallOn k (p ∷ ps))
+    (answered : AreAnsweredInPlace opened (p ∷ ps)) (falls : FallOn k (p ∷ ps))
     (listed : AllCounted k end (IsListed (p ∷ ps)) es) where
   abbrev r : Option Bytes
   r = get (replayed opened ps) k
@@ -147,7 +147,7 @@ module _ (opened : Table) (k : Bytes) (end : ℕ) (p : Performance) (ps : List P
         (first_back k end l p es (get (replayed opened (p ∷ ps)) k) on over rising has pass
         ∙ ap (back_on k end (minus p.number es)) undone ∙ rest)
 
-along : (opened : Table) (k : Bytes) (end l : ℕ) (ps : List Performance) (es : List Entry) → AreAnswered opened ps
+along : (opened : Table) (k : Bytes) (end l : ℕ) (ps : List Performance) (es : List Entry) → AreAnsweredInPlace opened ps
     → IsOnce ps → FallOn k ps → RiseAbove l es → AllCounted k end (IsListed ps) es → Saved es end k ps
     → back_on k end es (get (replayed opened ps) k) ≡ get (replayed opened (kept end ps)) k
 along opened k end l [] es answered once falls rising listed saved = none_on k end es (get opened k) listed

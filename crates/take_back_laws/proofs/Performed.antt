@@ -5,7 +5,7 @@ use Rattle.record_key.specs.Table.{Table, answer_in, after}
 use Rattle.inverse.specs.Inverse.{inverse_of}
 use Rattle.inverse.proofs.Undo.{either_order, answer-after, passes_back, undone, without_effect}
 use Rattle.page.specs.TakingBack.{undone_with}
-use Rattle.take_back_laws.specs.Performed.{Performance, replayed, AreAnswered, PassesAll, stays, one, BackIsReplayed}
+use Rattle.take_back_laws.specs.Performed.{Performance, replayed, AreAnsweredInPlace, PassesAll, stays, one, BackIsReplayed}
 
 -- one that passes by those that are newer may come last
 replayed_last : (opened : Table) (a : List Performance) (p : Performance) (b : List Performance) → PassesAll p.op a
@@ -29,13 +29,13 @@ undone_last m o (Some j) is = (undone m o j [] is tt).0
 
 -- what is left was answered at its place
 its_answer : (opened : Table) (a : List Performance) (p : Performance) (b : List Performance)
-    → AreAnswered opened (a ++ (p ∷ b))
+    → AreAnsweredInPlace opened (a ++ (p ∷ b))
     → p.answer ≡ answer_in (replayed opened b) p.op
 its_answer opened [] p b all = all.0
 its_answer opened (q ∷ a) p b all = its_answer opened a p b all.1
 
 pub answered_without : (opened : Table) (a : List Performance) (p : Performance) (b : List Performance) → PassesAll p.op a
-    → AreAnswered opened (a ++ (p ∷ b)) → AreAnswered opened (a ++ b)
+    → AreAnsweredInPlace opened (a ++ (p ∷ b)) → AreAnsweredInPlace opened (a ++ b)
 answered_without opened [] p b pass all = all.1
 answered_without opened (q ∷ a) p b pass all = (
   all.0 ∙ ap (λ m. answer_in m q.op) (replayed_last opened a p b pass.1)
@@ -44,7 +44,7 @@ answered_without opened (q ∷ a) p b pass all = (
 )
 
 one_back : (opened : Table) (a : List Performance) (p : Performance) (b : List Performance) → PassesAll p.op a
-    → AreAnswered opened (a ++ (p ∷ b))
+    → AreAnsweredInPlace opened (a ++ (p ∷ b))
     → undone_with (replayed opened (a ++ (p ∷ b))) (inverse_of p.op p.answer) ≡ replayed opened (a ++ b)
 one_back opened a p b pass all =
     let right : p.answer ≡ answer_in (replayed opened (a ++ b)) p.op =

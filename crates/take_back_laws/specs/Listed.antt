@@ -7,7 +7,7 @@ use Rattle.record_key.specs.Entries.{RiseAbove}
 use Rattle.record_key.specs.Table.{Bytes, Table, key_of, AreAdds}
 use Rattle.page.specs.Leaf.{LeafView}
 use Rattle.page.specs.TakingBack.{taken_back}
-use Rattle.take_back_laws.specs.Performed.{Performance, replayed, AreAnswered}
+use Rattle.take_back_laws.specs.Performed.{Performance, replayed, AreAnsweredInPlace}
 
 -- the performances up to an end
 abbrev pub kept : ℕ → List Performance → List Performance
@@ -46,7 +46,7 @@ FallOn k (p ∷ ps) = (key_of p.op ≡ k → AreOlder k p ps) × FallOn k ps
 -- what all of them leave
 pub record IsListedAt (opened : Table) (ps : List Performance) (end : ℕ) (k : Bytes) (leaf : LeafView) : Type 0 where
   pub value : get leaf.rows k ≡ get (replayed opened ps) k
-  pub answered : AreAnswered opened ps
+  pub answered : AreAnsweredInPlace opened ps
   pub once : IsOnce ps
   pub falls : FallOn k ps
   pub rising : RiseAbove leaf.ab.low leaf.ab.entries
@@ -63,5 +63,5 @@ TakenIsReplayed =
 -- and each of the others was answered at its place among them
 abbrev pub KeptAreAnswered : Type 0
 KeptAreAnswered =
-    (opened : Table) (ps : List Performance) (end : ℕ) → AreAnswered opened ps → ((k : Bytes) → FallOn k ps)
-    → AreAnswered opened (kept end ps)
+    (opened : Table) (ps : List Performance) (end : ℕ) → AreAnsweredInPlace opened ps → ((k : Bytes) → FallOn k ps)
+    → AreAnsweredInPlace opened (kept end ps)

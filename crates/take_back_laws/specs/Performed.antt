@@ -19,9 +19,9 @@ replayed opened [] = opened
 replayed opened (p ∷ ps) = after (replayed opened ps) p.op
 
 -- each was answered at its place
-abbrev pub AreAnswered : Table → List Performance → Type 0
-AreAnswered opened [] = Unit {0}
-AreAnswered opened (p ∷ ps) = (p.answer ≡ answer_in (replayed opened ps) p.op) × AreAnswered opened ps
+abbrev pub AreAnsweredInPlace : Table → List Performance → Type 0
+AreAnsweredInPlace opened [] = Unit {0}
+AreAnsweredInPlace opened (p ∷ ps) = (p.answer ≡ answer_in (replayed opened ps) p.op) × AreAnsweredInPlace opened ps
 
 -- the operation may pass by each of them
 abbrev pub PassesAll : Op → List Performance → Type 0
@@ -36,5 +36,5 @@ pub data IsBack : List Performance → Table → List Performance → Table → 
 -- then the rows are what those that are left give
 abbrev pub BackIsReplayed : Type 0
 BackIsReplayed =
-    (opened : Table) (ps qs : List Performance) (m n : Table) → AreAnswered opened ps → m ≡ replayed opened ps
+    (opened : Table) (ps qs : List Performance) (m n : Table) → AreAnsweredInPlace opened ps → m ≡ replayed opened ps
     → IsBack ps m qs n → n ≡ replayed opened qs

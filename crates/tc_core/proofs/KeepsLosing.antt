@@ -26,7 +26,7 @@ use Rattle.tc_core.specs.TcView.{TcView, is_none_lost}
 use Rattle.tc_core.specs.Locking.{is_listed, is_holder, HoldOperations}
 use Rattle.logical_log.specs.Undoing.{inverse_at, next_at}
 use Rattle.tc_core.specs.Changes.{waits_for, lost_comp, lost_compensated, lost_ended}
-use Rattle.tc_core.specs.Kept.{AreOpen, IsPhase, IsPhaseOf, MayLack, IsDue, closing, IsTc}
+use Rattle.tc_core.specs.Kept.{AreOpen, IsPhase, IsPhaseOf, MayLack, IsOwedAnswer, closing, IsTc}
 use Rattle.tc_core.proofs.Committing.{holder_more, holder_alike}
 use Rattle.tc_core.proofs.Finding.{found_number}
 use Rattle.tc_core.proofs.Low.{low_longer}
@@ -43,7 +43,7 @@ use Rattle.tc_core.proofs.Readings.{reads_kept}
 
 module _ (w : TcView) (k : IsTc w) (undoing : w.phase ≡ phase.Undoing None) where
   -- no request of a loser is awaited
-  none_due : (n : ℕ) → IsDue w.log w.losers.below n → ⊥
+  none_due : (n : ℕ) → IsOwedAnswer w.log w.losers.below n → ⊥
   none_due n due =
       let P : Phase → Type 0 = λ p. MayLack w.session p n in
       let lack : None ≡ Some n = subst P undoing (k.lost.lacking n due) in cc
@@ -151,8 +151,8 @@ module _ (w : TcView) (k : IsTc w) (undoing : w.phase ≡ phase.Undoing None) wh
         losers = losers_ended;
         phase_of = phase_of_ended l;
         lacking = λ n due. absurd (
-            let P : ℕ → Type 0 = λ b. IsDue (ended ∷ w.log) b n in
-            let due : IsDue (ended ∷ w.log) w.losers.below n = subst P same due in
+            let P : ℕ → Type 0 = λ b. IsOwedAnswer (ended ∷ w.log) b n in
+            let due : IsOwedAnswer (ended ∷ w.log) w.losers.below n = subst P same due in
             elim (cases_eq n (length w.log + 1)) [
               | inl e ↦ let none : AStep due.txn (Some ended) = newest_at (AStep due.txn) ended w.log n e due.step in cc
               | inr e ↦ none_due n (due_was ended w.log w.losers.below legal n k.lost.losers.bound e due)
@@ -207,10 +207,10 @@ module _ (w : TcView) (k : IsTc w) (undoing : w.phase ≡ phase.Undoing None) wh
     waited None n m e = absurd (cc)
     waited (Some i) n m e = (i, refl, cc)
 
-    lacking_comp : (n : ℕ) → IsDue (comp ∷ w.log) l.below n → waits_for (length w.log + 1) inverse ≡ Some n
+    lacking_comp : (n : ℕ) → IsOwedAnswer (comp ∷ w.log) l.below n → waits_for (length w.log + 1) inverse ≡ Some n
     lacking_comp n due =
-        let P : ℕ → Type 0 = λ b. IsDue (comp ∷ w.log) b n in
-        let due : IsDue (comp ∷ w.log) w.losers.below n = subst P same due in
+        let P : ℕ → Type 0 = λ b. IsOwedAnswer (comp ∷ w.log) b n in
+        let due : IsOwedAnswer (comp ∷ w.log) w.losers.below n = subst P same due in
         elim (cases_eq n (length w.log + 1)) [
           | inl e ↦ asked inverse due.op (length w.log + 1) (newest_at (ARequest due.op) comp w.log n e due.requests)
               ∙ ap Some (sym e)
@@ -218,11 +218,11 @@ module _ (w : TcView) (k : IsTc w) (undoing : w.phase ≡ phase.Undoing None) wh
         ]
 
     due_comp : (n : ℕ) → phase.Undoing (waits_for (length w.log + 1) inverse) ≡ phase.Undoing (Some n)
-        → IsDue (comp ∷ w.log) l.below n
+        → IsOwedAnswer (comp ∷ w.log) l.below n
     due_comp n e =
         let waits : waits_for (length w.log + 1) inverse ≡ Some n = cc in
         let is = waited inverse (length w.log + 1) n waits in
-        let P : ℕ → Type 0 = IsDue (comp ∷ w.log) l.below in
+        let P : ℕ → Type 0 = IsOwedAnswer (comp ∷ w.log) l.below in
         subst P is.2 (record {
           txn = x.txn;
           loser = still x.txn next.loser;

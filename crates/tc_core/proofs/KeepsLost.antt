@@ -19,7 +19,7 @@ use Rattle.tc_core.specs.Changes.{answered_lost, undoing_or_running}
 use Rattle.tc_core.specs.Replies.{takes, lacks, awaiting, next_phase, passed}
 use Rattle.tc_core.specs.Recovery.{redoing}
 use Rattle.tc_core.specs.Undo.{AsksNothing}
-use Rattle.tc_core.specs.Kept.{IsOpenTxn, IsPhase, IsPhaseOf, MayLack, IsDue, closing, IsTc}
+use Rattle.tc_core.specs.Kept.{IsOpenTxn, IsPhase, IsPhaseOf, MayLack, IsOwedAnswer, closing, IsTc}
 use Rattle.tc_core.proofs.Low.{may_all, low_longer}
 use Rattle.tc_core.proofs.Losers.{lost_answered}
 use Rattle.tc_core.proofs.Keeps.{open_was}
@@ -112,7 +112,7 @@ module _ (w : TcView) (k : IsTc w) where
     reading = k.reading;
   }
     where
-      past : (n : ℕ) → IsDue w.log w.losers.below n → w.checkpointed + 1 ≤ n
+      past : (n : ℕ) → IsOwedAnswer w.log w.losers.below n → w.checkpointed + 1 ≤ n
       past n due = elim (cases_lt w.checkpointed n) [
         | inl later ↦ omega (arith, later)
         | inr below ↦

@@ -10,13 +10,13 @@ use Rattle.range_locks.specs.Meant.{range_of}
 use Rattle.history.specs.Spans.{Conflict, changed_span}
 use Rattle.history.specs.Spans as law
 use Rattle.range_locks.specs.declared.span.Span.{Span}
-use Rattle.range_locks.specs.Locks.{spans_of, IsFree}
+use Rattle.range_locks.specs.Locks.{spans_of, IsGrantable}
 use Rattle.range_locks.proofs.Tables.{set_own, set_other}
 use Rattle.tc_core.specs.declared.open_txn.OpenTxn.{OpenTxn}
 use Rattle.tc_core.specs.declared.open_txn.Read.{Read}
 use Rattle.tc_core.specs.declared.open_txns.Wanted.TheVariants.{Reader}
 use Rattle.tc_core.specs.OpenTxns.{find, is_read, wants}
-use Rattle.tc_core.specs.Locking.{AreApart}
+use Rattle.tc_core.specs.Locking.{ConflictNowhere}
 use Rattle.tc_core.proofs.LettingGo.{early_taken}
 use Rattle.tc_core.proofs.Losers.{late_at}
 use Rattle.tc_core.specs.TcView.{TcView}
@@ -49,7 +49,7 @@ open_alike log o r h = record {
 
 pub keeps_ask : (w : TcView) (o : OpenTxn) (s : Span) → IsTc w → find o.txn w.open_txns ≡ Some o → o.waiting ≡ None
     → o.rolling ≡ None
-    → HasKeys (range_of s) → IsFree w.locks o.txn (shared s) → w.reads < 281474976710655 → IsTc (asked_read w o s)
+    → HasKeys (range_of s) → IsGrantable w.locks o.txn (shared s) → w.reads < 281474976710655 → IsTc (asked_read w o s)
 keeps_ask w o s k at none flat range free unspent =
     let r : Read = record { number = w.reads + 1; span = s } in
     let new : OpenTxn = reading_txn o (w.reads + 1) s in
@@ -144,7 +144,7 @@ held_apart w o r n u q k at some by open_u other =
           let h : IsReading w.reads w.locks o r = reading_at w o r k at some in
           let clash : Conflict (shared r.span) (changed_span q) =
           (key_of q, within, within_itself (key_of q), reader_conflicts q) in
-          let P : List law.Span → Type 0 = λ xs. AreApart xs (spans_of w.locks u) in
+          let P : List law.Span → Type 0 = λ xs. ConflictNowhere xs (spans_of w.locks u) in
           absurd ((subst P h.held (k.locks.apart o.txn u (λ e. other (sym e)))).0
           (held_by w n u q (shared r.span) k by open_u clash))
       | inr outside ↦ outside

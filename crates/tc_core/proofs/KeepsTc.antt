@@ -18,7 +18,7 @@ use Rattle.tc_core.specs.declared.open_txn.OpenTxn.{OpenTxn}
 use Rattle.tc_core.specs.declared.open_txn.Read.{Read}
 use Rattle.tc_core.specs.declared.open_txn.Rollback.{Rollback}
 use Rattle.tc_core.specs.OpenTxns.{find, replace, AreBelow}
-use Rattle.range_locks.specs.Locks.{spans_of, IsFree}
+use Rattle.range_locks.specs.Locks.{spans_of, IsGrantable}
 use Rattle.range_locks.proofs.Tables.{set_other}
 use Rattle.tc_core.specs.TcView.{TcView, used_so}
 use Rattle.stable.specs.Usage.{Usage}
@@ -29,7 +29,7 @@ use Rattle.tc_core.specs.Changes.{let_go, logged_session, reconnected, begun_txn
 use Rattle.tc_core.specs.Replies.{takes, is_number, if_awaits, asker, awaiting, next_phase, passed}
 use Rattle.tc_core.specs.declared.phase.Phase.{Phase}
 use Rattle.tc_core.specs.declared.phase.Phase.TheVariants as phase
-use Rattle.tc_core.specs.Kept.{IsTc, IsDue, closing, IsRollback, IsOpenTxn, IsWaiting, Waits, IsReading, IsPhase}
+use Rattle.tc_core.specs.Kept.{IsTc, IsOwedAnswer, closing, IsRollback, IsOpenTxn, IsWaiting, Waits, IsReading, IsPhase}
 use Rattle.tc_core.proofs.Finding.{found_number, found_own}
 use Rattle.tc_core.proofs.Committing.{none_committing, open_unlisted}
 use Rattle.tc_core.proofs.LettingGo.{let_go_held, let_go_other, early_taken, early_let_go}
@@ -228,7 +228,7 @@ held_by w n u q s k by open_u clash =
     (op_spans_has s w.log n u q by clash))
 
 -- so a key that nobody else holds has no operation of another open transaction, unless both are Adds
-pub key_free : (w : TcView) (t : ℕ) (op : Op) → IsTc w → IsFree w.locks t (changed_span op) → IsKeyFree w.log t op
+pub key_free : (w : TcView) (t : ℕ) (op : Op) → IsTc w → IsGrantable w.locks t (changed_span op) → IsKeyFree w.log t op
 key_free w t op k free n u o by key open_u =
     elim (cases_eq u t) [
       | inl same ↦ inl same
@@ -242,7 +242,7 @@ key_free w t op k free n u o by key open_u =
 
 -- an operation on a key that nobody else holds
 pub fits_op : (w : TcView) (o : OpenTxn) (op : Op) → IsTc w → find o.txn w.open_txns ≡ Some o → o.waiting ≡ None
-    → IsFree w.locks o.txn (changed_span op)
+    → IsGrantable w.locks o.txn (changed_span op)
     → Fits w.log (is.Op o.txn o.last op)
 fits_op w o op k at none free =
     let h = open_at w o k at in
@@ -250,7 +250,7 @@ fits_op w o op k at none free =
 
 pub keeps_act : (w : TcView) (o : OpenTxn) (op : Op) → IsTc w → find o.txn w.open_txns ≡ Some o → o.waiting ≡ None
     → o.reading ≡ None → o.rolling ≡ None
-    → IsFree w.locks o.txn (changed_span op) → is_spent w.log ≡ false → IsTc (acted w o op)
+    → IsGrantable w.locks o.txn (changed_span op) → is_spent w.log ≡ false → IsTc (acted w o op)
 keeps_act w o op k at none still flat free unspent =
     let r : Record = is.Op o.txn o.last op in
     let h = open_at w o k at in
@@ -376,7 +376,7 @@ fits_answer w o n a k at some =
 
 -- what a loser awaits is another's
 other_due : (w : TcView) (o : OpenTxn) (n : ℕ) → IsTc w → find o.txn w.open_txns ≡ Some o → IsWaiting w.log o n
-    → (m : ℕ) → IsDue w.log w.losers.below m → m ≢ n
+    → (m : ℕ) → IsOwedAnswer w.log w.losers.below m → m ≢ n
 other_due w o n k at waits m due same =
     let P : ℕ → Type 0 = λ x. IsStepOf w.log due.txn x in
     let its : IsStepOf w.log due.txn n = subst P same due.step in

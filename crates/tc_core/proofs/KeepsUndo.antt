@@ -15,7 +15,7 @@ use Rattle.tc_core.specs.OpenTxns.{find}
 use Rattle.logical_log.specs.LogView.{is_spent}
 use Rattle.tc_core.specs.TcView.{TcView}
 use Rattle.logical_log.specs.Undoing.{inverse_at, next_at}
-use Rattle.tc_core.specs.Changes.{waits_for, compensated_txn, compensated, ended, committed}
+use Rattle.tc_core.specs.Changes.{waits_for, compensated_txn, compensated, wholly_undone, committed}
 use Rattle.tc_core.specs.Kept.{IsTc, closing}
 use Rattle.tc_core.proofs.Committing.{holder_closing, commits_more}
 use Rattle.restart.specs.Losers.{txns}
@@ -109,7 +109,7 @@ fits_end w o k at none undone =
     }
 
 pub keeps_end : (w : TcView) (o : OpenTxn) → IsTc w → find o.txn w.open_txns ≡ Some o → Fits w.log (is.End o.txn)
-    → is_spent w.log ≡ false → IsTc (ended w o.txn)
+    → is_spent w.log ≡ false → IsTc (wholly_undone w o.txn)
 keeps_end w o k at fits unspent = record {
   legal = (fits, k.legal);
   within = omega (arith, k.within);

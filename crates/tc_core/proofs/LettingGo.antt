@@ -10,7 +10,7 @@ use Rattle.range_locks.proofs.Tables.{set_table, set_own, set_other}
 use Rattle.tc_core.specs.declared.open_txn.OpenTxn.{OpenTxn}
 use Rattle.tc_core.specs.OpenTxns.{find}
 use Rattle.tc_core.specs.Changes.{let_go}
-use Rattle.tc_core.specs.Locking.{is_listed, is_holder, op_spans, is_changing, AreApart, AreHeld, HoldOperations}
+use Rattle.tc_core.specs.Locking.{is_listed, is_holder, op_spans, is_changing, ConflictNowhere, AreHeld, HoldOperations}
 use Rattle.tc_core.proofs.HeldSpans.{held_none}
 
 -- the table stays one
@@ -81,7 +81,7 @@ gone_own (t ∷ ts) locks u table listed =
     ]
 
 -- so each holds nothing or what it held
-pub apart_none : (xs : List Span) → AreApart xs []
+pub apart_none : (xs : List Span) → ConflictNowhere xs []
 apart_none [] = tt
 apart_none (x ∷ xs) = (λ any. any, apart_none xs)
 

@@ -8,11 +8,11 @@ use Rattle.history.specs.declared.record.Record.TheVariants as is
 use Rattle.history.specs.Legal.{IsLegal}
 use Rattle.history.specs.Log.{op_of}
 use Rattle.history.specs.Spans.{Mode, Increment, Exclusive, Shared, do_conflict, Span, Conflict, AnyConflict, changed_span}
-use Rattle.range_locks.specs.Locks.{LocksView, spans_of, set_spans, IsFree}
+use Rattle.range_locks.specs.Locks.{LocksView, spans_of, set_spans, IsGrantable}
 use Rattle.range_locks.proofs.Tables.{set_table, set_own, set_other}
 use Rattle.tc_core.specs.declared.open_txn.OpenTxn.{OpenTxn}
 use Rattle.tc_core.specs.OpenTxns.{find, replace, without, AreBelow}
-use Rattle.tc_core.specs.Locking.{op_spans, held_spans, is_holder, is_listed, is_changing, AreApart, AreHeld}
+use Rattle.tc_core.specs.Locking.{op_spans, held_spans, is_holder, is_listed, is_changing, ConflictNowhere, AreHeld}
 use Rattle.tc_core.proofs.Finding.{find_above, find_there, without_other}
 use Rattle.tc_core.proofs.HeldSpans.{Holds, open_holds, same_holder, holder_replaced, held_none, held_same, held_acted, held_begun, held_ended, op_spans_longer, kept_changed}
 
@@ -31,16 +31,16 @@ modes_flip Exclusive Exclusive h = h
 flip : (s r : Span) → Conflict s r → Conflict r s
 flip s r c = (c.0, c.2, c.1, modes_flip s.mode r.mode c.3)
 
-head_apart : (xs : List Span) (y : Span) (ys : List Span) → AreApart xs (y ∷ ys) → AnyConflict y xs → ⊥
+head_apart : (xs : List Span) (y : Span) (ys : List Span) → ConflictNowhere xs (y ∷ ys) → AnyConflict y xs → ⊥
 head_apart [] y ys h any = any
 head_apart (x ∷ xs) y ys h any =
     elim any [ inl here ↦ h.0 (inl (flip y x here)) | inr there ↦ head_apart xs y ys h.1 there ]
 
-tail_apart : (xs : List Span) (y : Span) (ys : List Span) → AreApart xs (y ∷ ys) → AreApart xs ys
+tail_apart : (xs : List Span) (y : Span) (ys : List Span) → ConflictNowhere xs (y ∷ ys) → ConflictNowhere xs ys
 tail_apart [] y ys h = tt
 tail_apart (x ∷ xs) y ys h = (λ any. h.0 (inr any), tail_apart xs y ys h.1)
 
-apart_flip : (xs ys : List Span) → AreApart xs ys → AreApart ys xs
+apart_flip : (xs ys : List Span) → ConflictNowhere xs ys → ConflictNowhere ys xs
 apart_flip xs [] h = tt
 apart_flip xs (y ∷ ys) h = (head_apart xs y ys h, apart_flip xs ys (tail_apart xs y ys h))
 
@@ -78,7 +78,7 @@ module _ (log : List Record) (os : List OpenTxn) (cs : List ℕ) (locks : LocksV
       → (held_spans log2 os2 cs2 t ≡ filter is_changing spans)
       × ((u : ℕ) → u ≢ t → held_spans log2 os2 cs2 u ≡ held_spans log os cs u)
       → (is_holder os2 cs2 t ≡ false → spans ≡ []) → ((u : ℕ) → u ≢ t → is_holder os2 cs2 u ≡ is_holder os cs u)
-      → ((u : ℕ) → u ≢ t → AreApart spans (spans_of locks u))
+      → ((u : ℕ) → u ≢ t → ConflictNowhere spans (spans_of locks u))
       → AreHeld log2 os2 cs2 (set_spans t spans locks)
   change t spans log2 os2 cs2 holds own others apart =
       let new : LocksView = set_spans t spans locks in
@@ -127,7 +127,7 @@ module _ (log : List Record) (os : List OpenTxn) (cs : List ℕ) (locks : LocksV
       ])
 
   -- a free span is taken for an open transaction
-  taken : (new o : OpenTxn) (s : Span) (log2 : List Record) → find new.txn os ≡ Some o → IsFree locks new.txn s
+  taken : (new o : OpenTxn) (s : Span) (log2 : List Record) → find new.txn os ≡ Some o → IsGrantable locks new.txn s
       → Holds log os cs new.txn (filter is_changing (s ∷ spans_of locks new.txn)) log2 (replace new os)
       → AreHeld log2 (replace new os) cs (set_spans new.txn (s ∷ spans_of locks new.txn) locks)
   taken new o s log2 at free holds =
@@ -139,7 +139,7 @@ module _ (log : List Record) (os : List OpenTxn) (cs : List ℕ) (locks : LocksV
 
   -- an operation takes its key
   pub takes : (new o : OpenTxn) (p : ℕ) (op : Op) → find new.txn os ≡ Some o
-      → IsFree locks new.txn (changed_span op)
+      → IsGrantable locks new.txn (changed_span op)
       → AreHeld (is.Op new.txn p op ∷ log) (replace new os) cs
       (set_spans new.txn (changed_span op ∷ spans_of locks new.txn) locks)
   takes new o p op at free =
@@ -168,7 +168,7 @@ module _ (log : List Record) (os : List OpenTxn) (cs : List ℕ) (locks : LocksV
       (λ t none. held.others t (sym (same t) ∙ none))
 
   -- a read takes its span
-  pub shares : (new o : OpenTxn) (s : Span) → find new.txn os ≡ Some o → is_changing s ≡ false → IsFree locks new.txn s
+  pub shares : (new o : OpenTxn) (s : Span) → find new.txn os ≡ Some o → is_changing s ≡ false → IsGrantable locks new.txn s
       → AreHeld log (replace new os) cs (set_spans new.txn (s ∷ spans_of locks new.txn) locks)
   shares new o s at flat free =
       let same = held_same log log os (replace new os) cs cs (holder_replaced new o os cs at) (λ u. refl) in

@@ -27,7 +27,7 @@ use Rattle.tc_core.specs.OpenTxns.{find}
 use Rattle.tc_core.specs.Locking.{is_listed}
 use Rattle.tc_core.specs.TcView.{TcView, is_nil, is_none_lost}
 use Rattle.tc_core.specs.Replies.{takes, left_awaited, next_phase}
-use Rattle.tc_core.specs.Kept.{IsPhaseOf, MayLack, IsDue, AreLost, IsTc}
+use Rattle.tc_core.specs.Kept.{IsPhaseOf, MayLack, IsOwedAnswer, AreLost, IsTc}
 
 -- who is listed is one of them, and who is counted is listed
 listed_all : (P : ℕ → Type 0) (ts : List ℕ) (t : ℕ) → All P ts → is_listed ts t ≡ true → P t
@@ -85,8 +85,8 @@ unanswered_was r log n none = pick (is_some (answer_of log n)) refl (answer_of l
 
 module _ (r : Record) (log : List Record) (below : ℕ) (legal : IsLegal (r ∷ log)) where
   -- a loser's request stays one
-  pub due_kept : (n : ℕ) (h : IsDue log below n) → (r ≡ is.Commit h.txn → ⊥) → (r ≡ is.End h.txn → ⊥)
-      → answer_of (r ∷ log) n ≡ None → IsDue (r ∷ log) below n
+  pub due_kept : (n : ℕ) (h : IsOwedAnswer log below n) → (r ≡ is.Commit h.txn → ⊥) → (r ≡ is.End h.txn → ⊥)
+      → answer_of (r ∷ log) n ≡ None → IsOwedAnswer (r ∷ log) below n
   due_kept n h commits ends unanswered =
       let number = step_number log n h.txn h.step in
       record {
@@ -99,7 +99,7 @@ module _ (r : Record) (log : List Record) (below : ℕ) (legal : IsLegal (r ∷ 
       }
 
   -- and was one, where it isn't the newest record
-  pub due_was : (n : ℕ) → below ≤ length log + 1 → n ≢ length log + 1 → IsDue (r ∷ log) below n → IsDue log below n
+  pub due_was : (n : ℕ) → below ≤ length log + 1 → n ≢ length log + 1 → IsOwedAnswer (r ∷ log) below n → IsOwedAnswer log below n
   due_was n bound apart h = record {
     txn = h.txn;
     loser = loser_had r log legal below h.txn bound h.loser;
@@ -144,7 +144,7 @@ lost_started log s p l legal h =
     }
 
 -- a number that has its answer isn't awaited any more
-not_due : (log : List Record) (below n m : ℕ) → IsDue log below m
+not_due : (log : List Record) (below n m : ℕ) → IsOwedAnswer log below m
     → ((o : Op) → Requests log n o → IsSome (answer_of log n)) → m ≢ n
 not_due log below n m due answered same =
     let P : ℕ → Type 0 = λ x. Requests log x due.op in

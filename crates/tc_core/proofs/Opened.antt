@@ -27,7 +27,7 @@ use Rattle.range_locks.specs.Locks.{LocksView, spans_of}
 use Rattle.restart.specs.Losers.{LosersView, txns, AreLosers}
 use Rattle.logical_log.specs.Checkpointed.{IsCheckpointed}
 use Rattle.restart.specs.Plan.{IsRedoStart}
-use Rattle.tc_core.specs.Locking.{op_spans, is_listed, is_changing, AreApart, AreHeld, HoldOperations}
+use Rattle.tc_core.specs.Locking.{op_spans, is_listed, is_changing, ConflictNowhere, AreHeld, HoldOperations}
 use Rattle.tc_core.specs.Opening.{HoldsOpen, opened}
 use Rattle.tc_core.specs.Kept.{IsTc}
 use Rattle.tc_core.proofs.HeldSpans.{kept_changed}
@@ -93,13 +93,13 @@ any_op (r ∷ log) t k m any = has_longer r log t k m (any_op log t k m any)
 module _ (log : List Record) (t u : ℕ) (legal : IsLegal log) (open_t : IsOpen log t) (open_u : IsOpen log u)
     (differ : t ≢ u) where
   apart_in : (part : List Record) → ((n : ℕ) (o : Op) → IsOpBy part n t o → IsOpBy log n t o)
-      → AreApart (op_spans part t) (op_spans log u)
+      → ConflictNowhere (op_spans part t) (op_spans log u)
   apart_in [] up = tt
   apart_in (is.Op v p o ∷ part) up =
       pick (t == v) refl (apart_in part (λ n q by. up n q (op_longer (is.Op v p o) part n t q by)))
     where
-      pick : (b : Bool) → (t == v) ≡ b → AreApart (op_spans part t) (op_spans log u)
-          → AreApart (if b then changed_span o ∷ op_spans part t else op_spans part t) (op_spans log u)
+      pick : (b : Bool) → (t == v) ≡ b → ConflictNowhere (op_spans part t) (op_spans log u)
+          → ConflictNowhere (if b then changed_span o ∷ op_spans part t else op_spans part t) (op_spans log u)
       pick true same rest = (
         λ any. let other = any_op log u (key_of o) (mode_of o) any in
             let mine : IsOpBy log (length part + 1) t o = up (length part + 1) o
@@ -113,7 +113,7 @@ module _ (log : List Record) (t u : ℕ) (legal : IsLegal log) (open_t : IsOpen 
       pick false other rest = rest
   apart_in (r ∷ part) up = apart_in part (λ n q by. up n q (op_longer r part n t q by))
 
-  apart_ops : AreApart (op_spans log t) (op_spans log u)
+  apart_ops : ConflictNowhere (op_spans log t) (op_spans log u)
   apart_ops = apart_in log (λ n o by. by)
 
 all_changing : (log : List Record) (t : ℕ) → filter is_changing (op_spans log t) ≡ op_spans log t

@@ -12,7 +12,7 @@ use Rattle.history.specs.Legal.{IsLegal}
 use Rattle.record_key.specs.declared.op.Op.{Op}
 use Rattle.range_locks.specs.declared.span.Mode.{Mode}
 use Rattle.range_locks.specs.declared.span.Mode.TheVariants as held
-use Rattle.range_locks.specs.Meant.{mode_of}
+use Rattle.range_locks.specs.Meant.{mode_meant}
 use Rattle.history.specs.Spans as law
 use Rattle.history.specs.Spans.{at_key, changed_span}
 use Rattle.framed_log.specs.Beginning.{beginning}
@@ -26,19 +26,19 @@ use Rattle.tc_core.specs.Locking.{op_spans, held_mode}
 use Rattle.tc_core.specs.Opening.{key_noted, spans_if}
 
 -- the table holds a key for what its operation changes it for
-pub held_so : (o : Op) → mode_of (held_mode o) ≡ law.mode_of o
+pub held_so : (o : Op) → mode_meant (held_mode o) ≡ law.mode_of o
 held_so o = pick (is_add o)
   where
     pick : (b : Bool)
-        → mode_of (if b then held.Increment else held.Exclusive) ≡ (if b then law.Increment else law.Exclusive)
+        → mode_meant (if b then held.Increment else held.Exclusive) ≡ (if b then law.Increment else law.Exclusive)
     pick true = refl
     pick false = refl
 
 -- so the span that is taken for it is the one that it changes
 pub taken_span : (m : Mode) (k : Bytes) (o : Op) → m ≡ held_mode o → k ≡ key_of o
-    → at_key (mode_of m) k ≡ changed_span o
+    → at_key (mode_meant m) k ≡ changed_span o
 taken_span m k o mode key =
-    ap (λ x. at_key (mode_of x) k) mode ∙ ap (λ (x : Bytes). at_key (mode_of (held_mode o)) x) key
+    ap (λ x. at_key (mode_meant x) k) mode ∙ ap (λ (x : Bytes). at_key (mode_meant (held_mode o)) x) key
     ∙ ap (λ x. at_key x (key_of o)) (held_so o)
 
 -- one that is listed last is the newest of its transaction

@@ -11,7 +11,7 @@ use Rattle.codec.specs.declared.request.Request.{Request}
 use Rattle.codec.specs.declared.request.Request.TheVariants as asks
 use Rattle.range_locks.specs.declared.span.Span.{Span}
 use Rattle.range_locks.specs.declared.span.Span.TheVariants.{Key, Range}
-use Rattle.range_locks.specs.Locks.{IsFree}
+use Rattle.range_locks.specs.Locks.{IsGrantable}
 use Rattle.tc_core.specs.declared.open_txn.OpenTxn.{OpenTxn}
 use Rattle.tc_core.specs.declared.open_txn.Read.{Read}
 use Rattle.tc_core.specs.declared.open_txn.Rollback.{Rollback}
@@ -25,7 +25,7 @@ use Rattle.tc_core.specs.OpenTxns.{find}
 use Rattle.tc_core.specs.TcView.{TcView, is_serving, failed}
 use Rattle.tc_core.specs.Refusing.{Refuses}
 use Rattle.tc_core.specs.Causes.{running_refusal, idle_refusal, begin_refusal, commit_refusal, save_refusal, back_refusal, read_refusal, reads_spent, undo_refusal, undo_logs, resend_refusal, RefusesTaking}
-use Rattle.tc_core.specs.Changes.{forced, logged_session, reconnected, begun, acted, asked_read, shared, saved, rolled, going_back, committed, compensated, ended, is_back}
+use Rattle.tc_core.specs.Changes.{forced, logged_session, reconnected, begun, acted, asked_read, shared, saved, rolled, going_back, committed, compensated, wholly_undone, is_back}
 
 -- the open transaction of this number
 pub record IsAt (w : TcView) (t : ℕ) (o : OpenTxn) : Type 0 where
@@ -52,7 +52,7 @@ pub record Acts (old : TcView) (t : ℕ) (op : Op) (number : ℕ) (new : TcView)
   pub open_txn : OpenTxn
   pub at : IsAt old t open_txn
   pub allowed : idle_refusal old t ≡ None
-  pub free : IsFree old.locks t (changed_span op)
+  pub free : IsGrantable old.locks t (changed_span op)
   pub unspent : spent_refusal old.log ≡ None
   pub number_is : number ≡ length old.log + 1
   pub acted : new ≡ acted old open_txn op
@@ -67,7 +67,7 @@ pub record AsksRead (old : TcView) (t : ℕ) (span : Span) (number : ℕ) (new :
   pub open_txn : OpenTxn
   pub at : IsAt old t open_txn
   pub allowed : read_refusal old t (range_of span) ≡ None
-  pub free : IsFree old.locks t (shared span)
+  pub free : IsGrantable old.locks t (shared span)
   pub unspent : reads_spent old.reads ≡ None
   pub number_is : number ≡ old.reads + 1
   pub asked : new ≡ asked_read old open_txn span
@@ -122,7 +122,7 @@ abbrev pub Undoes : TcView → OpenTxn → Option Rollback → UndoStep → TcVi
 Undoes w o None step.Idle new = new ≡ w
 Undoes w o (Some r) (step.Compensated n) new = (r.above < o.undo) × (n ≡ length w.log + 1) × (new ≡ compensated w o)
 Undoes w o (Some r) (step.RolledBack t) new =
-    (o.undo ≤ r.above) × (r.savepoint ≡ None) × (t ≡ o.txn) × (new ≡ ended w o.txn)
+    (o.undo ≤ r.above) × (r.savepoint ≡ None) × (t ≡ o.txn) × (new ≡ wholly_undone w o.txn)
 Undoes w o (Some r) (step.Back t s) new =
     (o.undo ≤ r.above) × (r.savepoint ≡ Some s) × (t ≡ o.txn) × (new ≡ is_back w o)
 Undoes w o _ _ new = ⊥

@@ -5,7 +5,7 @@ use Rattle.record_key.specs.declared.refusal.Refusal.TheVariants.{NotConnected, 
 use Rattle.record_key.specs.FirstCause.{first_of, or_else}
 use Rattle.history.specs.Spans.{Span}
 use Rattle.record_key.specs.Order.{Range, ends_above}
-use Rattle.range_locks.specs.Locks.{IsFree, IsLeastHolder}
+use Rattle.range_locks.specs.Locks.{IsGrantable, IsLeastHolder}
 use Rattle.tc_core.specs.declared.open_txn.OpenTxn.{OpenTxn}
 use Rattle.tc_core.specs.declared.open_txn.Rollback.{Rollback}
 use Rattle.logical_log.specs.LogView.{is_spent, spent_refusal}
@@ -72,7 +72,7 @@ abbrev pub RefusesTaking : Option Refusal → Option Refusal → Bool → TcView
 RefusesTaking (Some cause) spent device old t s r new = (r ≡ cause) × (new ≡ old)
 RefusesTaking None spent device old t s r new =
     ((u : ℕ) × (r ≡ Busy u) × IsLeastHolder old.locks t s u × (new ≡ old))
-    ⊎ (IsFree old.locks t s × Refuses spent true device old r new)
+    ⊎ (IsGrantable old.locks t s × Refuses spent true device old r new)
 
 abbrev pub answered_refusal : TcView → ℕ → Option Refusal
 answered_refusal w t = or_else (open_refusal w t) (first_of ((is_waiting (find t w.open_txns), Unanswered) ∷ []))

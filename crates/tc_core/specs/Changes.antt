@@ -159,8 +159,8 @@ compensated w o = record w {
 }
 
 -- wholly rolled back: its End is logged, and it lets go of what it held
-abbrev pub ended : TcView → ℕ → TcView
-ended w t = record w {
+abbrev pub wholly_undone : TcView → ℕ → TcView
+wholly_undone w t = record w {
   log = is.End t ∷ w.log;
   usage = called w.usage;
   open_txns = without t w.open_txns;

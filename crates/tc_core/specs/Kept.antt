@@ -103,7 +103,7 @@ MayLack s (phase.Undoing waiting) n = waiting ≡ Some n
 MayLack s phase.Running n = ⊥
 
 -- a loser's request that has no answer
-pub record IsDue (log : List Record) (below n : ℕ) : Type 0 where
+pub record IsOwedAnswer (log : List Record) (below n : ℕ) : Type 0 where
   pub txn : ℕ
   pub loser : IsLoser log below txn
   pub op : Op
@@ -115,8 +115,8 @@ pub record IsDue (log : List Record) (below n : ℕ) : Type 0 where
 pub record AreLost (log : List Record) (s : ℕ) (p : Phase) (l : LosersView) : Type 0 where
   pub losers : AreLosers log l
   pub phase_of : IsPhaseOf l p
-  pub lacking : (n : ℕ) → IsDue log l.below n → MayLack s p n
-  pub due : (n : ℕ) → p ≡ phase.Undoing (Some n) → IsDue log l.below n
+  pub lacking : (n : ℕ) → IsOwedAnswer log l.below n → MayLack s p n
+  pub due : (n : ℕ) → p ≡ phase.Undoing (Some n) → IsOwedAnswer log l.below n
 
 -- how far the data component may forget: what was announced, what a checkpoint was asked for, and the greatest that
 -- a Checkpoint record names

@@ -11,7 +11,7 @@ use Rattle.history.specs.declared.record.Record.TheVariants as is
 use Rattle.history.specs.Spans.{Mode, Shared, Increment, Exclusive, Span, AnyConflict, changed_span}
 use Rattle.range_locks.specs.declared.span.Mode as code
 use Rattle.range_locks.specs.declared.span.Mode.TheVariants as held
-use Rattle.range_locks.specs.Locks.{LocksView, spans_of, IsFree, IsLeastHolder, IsTable}
+use Rattle.range_locks.specs.Locks.{LocksView, spans_of, IsGrantable, IsLeastHolder, IsTable}
 use Rattle.tc_core.specs.declared.open_txn.OpenTxn.{OpenTxn}
 use Rattle.tc_core.specs.OpenTxns.{find}
 
@@ -47,8 +47,8 @@ abbrev pub is_changing : Span → Bool
 is_changing s = is_for_change s.mode
 
 -- no span of these conflicts with one of those
-abbrev pub AreApart : List Span → List Span → Type 0
-AreApart xs ys = AllByRecursion (λ x. AnyConflict x ys → ⊥) xs
+abbrev pub ConflictNowhere : List Span → List Span → Type 0
+ConflictNowhere xs ys = AllByRecursion (λ x. AnyConflict x ys → ⊥) xs
 
 -- the lock table: for a change just the keys of the operations of open transactions and of those that are closing;
 -- nobody else holds anything, and no two of them hold what conflicts
@@ -56,7 +56,7 @@ pub record AreHeld (log : List Record) (os : List OpenTxn) (committing : List �
   pub table : IsTable locks
   pub changing : (t : ℕ) → filter is_changing (spans_of locks t) ≡ held_spans log os committing t
   pub others : (t : ℕ) → is_holder os committing t ≡ false → spans_of locks t ≡ []
-  pub apart : (t u : ℕ) → t ≢ u → AreApart (spans_of locks t) (spans_of locks u)
+  pub apart : (t u : ℕ) → t ≢ u → ConflictNowhere (spans_of locks t) (spans_of locks u)
 
 -- who began below this number, as losers did, holds the keys of its operations only
 abbrev pub HoldOperations : ℕ → LocksView → Type 0
@@ -65,7 +65,7 @@ HoldOperations below locks = (t : ℕ) → t < below → filter is_changing (spa
 -- why a span isn't taken: it is busy; else no number is left for the call, or no memory
 abbrev pub RefusesLock : LocksView → ℕ → Span → Option Refusal → Refusal → Type 0
 RefusesLock locks t s spent r =
-    ((u : ℕ) × (r ≡ Busy u) × IsLeastHolder locks t s u) ⊎ (IsFree locks t s × RefusesAs spent r)
+    ((u : ℕ) × (r ≡ Busy u) × IsLeastHolder locks t s u) ⊎ (IsGrantable locks t s × RefusesAs spent r)
 
 abbrev pub spent_of : Bool → Option Refusal
 spent_of spent = first_of ((spent, NumbersSpent) ∷ [])

@@ -74,8 +74,8 @@ abbrev pub failed : TcView → TcView
 failed w = used_so w (failed_use w.usage)
 
 -- nothing is logged, and nobody is connected; the device was used so
-abbrev pub fresh : Usage → TcView
-fresh usage = record {
+abbrev pub fresh_tc : Usage → TcView
+fresh_tc usage = record {
   log = [];
   stable = 0;
   usage = usage;

@@ -1,7 +1,7 @@
 //! Locks for the calls of clients.
 ghost use Rattle.std.specs.Prelude.{◌≡◌, ◌∷◌, false, IfErr, OnOk, OnErr};
 ghost use Rattle.record_key.specs.Order.{HasKeys};
-ghost use Rattle.range_locks.specs.Locks.{spans_of, set_spans, IsFree, IsTable};
+ghost use Rattle.range_locks.specs.Locks.{spans_of, set_spans, IsGrantable, IsTable};
 ghost use Rattle.range_locks.specs.Meant.{meant, range_of};
 ghost use Rattle.tc_core.specs.Locking.{RefusesLock, held_mode, spent_of};
 
@@ -19,7 +19,7 @@ pub fn take(
 ) -> Result<(), Refusal>
     requires range { HasKeys (range_of span.now) }
     requires table { IsTable locks.old }
-    ensures free { OnOk result (IsFree locks.old txn (meant mode span.now)) }
+    ensures free { OnOk result (IsGrantable locks.old txn (meant mode span.now)) }
     ensures unspent { OnOk result (spent ≡ false) }
     ensures taken { OnOk result (locks.new ≡ set_spans txn (meant mode span.now ∷ spans_of locks.old txn) locks.old) }
     ensures refused { IfErr result (RefusesLock locks.old txn (meant mode span.now) (spent_of spent)) }
@@ -46,7 +46,7 @@ pub fn take_key(
     key: &Key,
 ) -> Result<(), Refusal>
     requires { IsTable locks.old }
-    ensures free { OnOk result (IsFree locks.old txn (meant mode (Span.Key key.now))) }
+    ensures free { OnOk result (IsGrantable locks.old txn (meant mode (Span.Key key.now))) }
     ensures unspent { OnOk result (spent ≡ false) }
     ensures taken { OnOk result
         (locks.new ≡ set_spans txn (meant mode (Span.Key key.now) ∷ spans_of locks.old txn) locks.old) }

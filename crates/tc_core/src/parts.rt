@@ -2,7 +2,7 @@
 ghost use Rattle.std.specs.Prelude.{◌≡◌, ◌≤◌, [], true, Some, None, IfOk, IfErr, OnOk};
 ghost use Rattle.stable.specs.Usage.{failing_in};
 ghost use Rattle.logical_log.specs.LogView.{spent_refusal};
-ghost use Rattle.tc_core.specs.TcView.{fresh, used_so, is_running, is_serving};
+ghost use Rattle.tc_core.specs.TcView.{fresh_tc, used_so, is_running, is_serving};
 ghost use Rattle.tc_core.specs.Causes.{running_refusal, serving_refusal, open_refusal, answered_refusal, idle_refusal};
 ghost use Rattle.tc_core.specs.Finds.{FindsOpen, FindsAnswered, FindsIdle};
 ghost use Rattle.tc_core.specs.Kept.{IsTc};
@@ -49,7 +49,7 @@ impl<D: LogDevice> Parts<D> {
     pub fn new(alloc: Global, device: D) -> Parts<D>
         requires empty { (D.forced device ≡ []) × (D.pending device ≡ []) }
         ensures kept { IsTc (seen result) }
-        ensures fresh { seen result ≡ fresh (D.usage device) }
+        ensures fresh { seen result ≡ fresh_tc (D.usage device) }
     {
         Parts {
             log: Log::new(alloc, device),

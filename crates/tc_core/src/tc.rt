@@ -8,7 +8,7 @@ ghost use Rattle.framed_log.specs.Beginning.{beginning};
 ghost use Rattle.logical_log.specs.Opening.{RefusesOpen, UsedToOpen};
 ghost use Rattle.logical_log.specs.Spelled.{spelled, AreRecords, IsAskedBy};
 ghost use Rattle.logical_log.specs.LogView.{spent_refusal};
-ghost use Rattle.tc_core.specs.TcView.{TcView, fresh, used_so};
+ghost use Rattle.tc_core.specs.TcView.{TcView, fresh_tc, used_so};
 ghost use Rattle.tc_core.specs.OpenTxns.{find, oldest, wants};
 ghost use Rattle.tc_core.specs.Calls.{ReconnectGives, BeginGives, ActGives, ReadGives, SaveGives, BackGives, RollbackGives, CommitGives, UndoGives, ForceGives, ResendGives, IsOpRequest, IsReadRequest, IsAwaitedOp, TellStableGives};
 ghost use Rattle.record_key.specs.Table.{Bytes};
@@ -62,7 +62,7 @@ impl<D: LogDevice> Tc<D> {
     /// A component with an empty log, on an empty device, and no session.
     pub fn new(alloc: Global, device: D) -> Tc<D>
         requires empty { (D.forced device ≡ []) × (D.pending device ≡ []) }
-        ensures { result ≡ fresh (D.usage device) }
+        ensures { result ≡ fresh_tc (D.usage device) }
     {
         Tc {
             parts: Parts::new(alloc, device),

@@ -21,8 +21,8 @@ abbrev pub below : ℕ → List ℕ
 below zero = []
 below (suc n) = below n ++ n ∷ []
 
-abbrev pub numbers_of : List SessionView → List ℕ
-numbers_of ss = map (λ (s : SessionView). s.number) ss
+abbrev pub numbers_named : List SessionView → List ℕ
+numbers_named ss = map (λ (s : SessionView). s.number) ss
 
 abbrev pub numbers_in : {J : Type 0} → List (Sitter J) → List ℕ
 numbers_in ss = map (λ s. s.caller.number) ss

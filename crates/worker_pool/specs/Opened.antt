@@ -31,13 +31,13 @@ opened_as start row marks tc dc chairs = record {
 }
 
 -- its seat reads these marks, and has seen nothing of them
-abbrev pub IsReader : TableId → Chair → Type 0
-IsReader marks chair = chair.seat ≡ reader marks 0 0
+abbrev pub ReadsMarks : TableId → Chair → Type 0
+ReadsMarks marks chair = chair.seat ≡ reader marks 0 0
 
 -- nobody has raised the marks, and a journal may begin with the components
 pub record IsOpened (marks : TableId) (seat : Seen) (chairs : List Chair) (start : Start) : Type 0 where
   pub raises : seat ≡ raiser marks 0 0
-  pub reads : AllByRecursion (IsReader marks) chairs
+  pub reads : AllByRecursion (ReadsMarks marks) chairs
   pub starts : IsStart start
 
 -- the ties of the sessions have these names

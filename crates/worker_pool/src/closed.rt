@@ -3,7 +3,7 @@ ghost use Rattle.std.specs.Prelude.{◌≡◌, length, slice_get, IfOk, IfErr, I
 ghost use Rattle.node_laws.specs.Node.{NodeView};
 ghost use Rattle.node_laws.specs.Promises.{Promises};
 ghost use Rattle.pool_journal.specs.Ending.{EndsWith};
-ghost use Rattle.pool_journal.specs.Steps.{IsRun, RunsTo};
+ghost use Rattle.pool_journal.specs.Steps.{RunsFrom, RunsTo};
 
 use pool_journal::{Hall, Journal, Naming, Step};
 use record_key::{Key, Refusal, Value};
@@ -64,7 +64,7 @@ impl<J: Naming> Closed<J> {
     /// every moment holds at its end. So where it is settled, the records are those of a plain map after the operations
     /// that stand.
     pub fn kept(&self)
-        ensures run { IsRun J.start self.now.steps }
+        ensures run { RunsFrom J.start self.now.steps }
         ensures rows { EndsWith J.start self.now.steps self.now.rows }
         ensures promised { (w : NodeView) → RunsTo J.start self.now.steps w → Promises w }
     {

@@ -3,7 +3,7 @@ ghost use Rattle.std.specs.Prelude.{◌≡◌, ◌<◌, IfOk, IfErr, length};
 ghost use Rattle.std.specs.List.{AllByRecursion};
 ghost use Rattle.pool_journal.specs.Ending.{EndsWith};
 ghost use Rattle.shared_node.specs.Outages.{IsOutage};
-ghost use Rattle.worker_pool.specs.Closing.{IsFresh, IsKeptBy, below, numbers_of};
+ghost use Rattle.worker_pool.specs.Closing.{IsFresh, IsKeptBy, below, numbers_named};
 ghost use Rattle.worker_pool.specs.Opened.{IsNamed};
 
 use crate::assembly::share;
@@ -101,7 +101,7 @@ where
         requires some { 0 < workers }
         ensures refused { IfErr result IsOutage }
         ensures fresh { IfOk result (λ made. AllByRecursion (IsFresh J.marks) made.1.items) }
-        ensures numbers { IfOk result (λ made. numbers_of made.1.items ≡ below (length opened.sessions)) }
+        ensures numbers { IfOk result (λ made. numbers_named made.1.items ≡ below (length opened.sessions)) }
     {
         let alloc = opened.start.alloc;
         let (shared, sitters) = share(opened, gate)?;

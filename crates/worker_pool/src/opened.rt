@@ -4,7 +4,7 @@ ghost use Rattle.std.specs.List.{AllByRecursion};
 ghost use Rattle.marks.specs.Seen.{raiser, reader};
 ghost use Rattle.node_laws.specs.Node.{fresh_node};
 ghost use Rattle.pool_journal.specs.Steps.{node_at};
-ghost use Rattle.worker_pool.specs.Opened.{IsReader};
+ghost use Rattle.worker_pool.specs.Opened.{ReadsMarks};
 
 use boxcar::Vec as Row;
 use marks::{Marks, Seat};
@@ -74,7 +74,7 @@ impl Seats {
     /// For so many sessions, at most 8. Refused Full, NoMemory.
     fn new(alloc: Global, sessions: usize) -> Result<Seats, Refusal>
         ensures raises { IfOk result (λ seats. seats.seat ≡ raiser seats.marks 0 0) }
-        ensures reads { IfOk result (λ seats. AllByRecursion (IsReader seats.marks) seats.chairs.items) }
+        ensures reads { IfOk result (λ seats. AllByRecursion (ReadsMarks seats.marks) seats.chairs.items) }
         ensures count { IfOk result (λ seats. length seats.chairs.items ≡ sessions) }
         ensures within { IfOk result (λ seats. sessions ≤ 8) }
         ensures full { 8 < sessions → result ≡ Err Refusal.Full }
@@ -172,7 +172,7 @@ impl<D: CrashLog + Drop, P: CrashPages + Drop> Opened<D, P> {
     fn of(alloc: Global, world: World<D, P>, seats: Seats) -> Result<Opened<D, P>, AllocError>
         requires quiet { (world.requests ≡ []) × (world.replies ≡ []) }
         requires raises { seats.seat ≡ raiser seats.marks 0 0 }
-        requires reads { AllByRecursion (IsReader seats.marks) seats.chairs.items }
+        requires reads { AllByRecursion (ReadsMarks seats.marks) seats.chairs.items }
         ensures start { IfOk result (λ opened. node_at opened.start ≡ world) }
         ensures count { IfOk result (λ opened. length opened.sessions ≡ length seats.chairs.items) }
     {
@@ -204,7 +204,7 @@ impl<D: CrashLog + Drop, P: CrashPages + Drop> Opened<D, P> {
 fn chairs(alloc: Global, marks: &Marks, readers: Vec<Seat>) -> Result<Vec<Chair>, AllocError>
     requires { All (λ seat. seat ≡ reader marks.now 0 0) readers.items }
     ensures count { IfOk result (λ chairs. length chairs.items ≡ length readers.items) }
-    ensures readers { IfOk result (λ chairs. AllByRecursion (IsReader marks.now) chairs.items) }
+    ensures readers { IfOk result (λ chairs. AllByRecursion (ReadsMarks marks.now) chairs.items) }
 {
     let _ = marks;
     let mut chairs = Vec::with_capacity(alloc, readers.len())?;

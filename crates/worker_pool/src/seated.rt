@@ -1,9 +1,9 @@
 //! The places and callers of an engine's sessions.
 ghost use Rattle.std.specs.Prelude.{◌≡◌, ◌≤◌, [], IfOk, length, vec_len};
 ghost use Rattle.std.specs.List.{AllByRecursion};
-ghost use Rattle.worker_pool.specs.Closing.{IsFresh, IsCovered, IsSeated, below, callers_as, numbers_in, numbers_of};
+ghost use Rattle.worker_pool.specs.Closing.{IsFresh, IsCovered, IsSeated, below, callers_as, numbers_in, numbers_named};
 ghost use Rattle.pool_journal.specs.Kept.{PlacesKept};
-ghost use Rattle.worker_pool.specs.Opened.{AreTied, IsReader, ties_of};
+ghost use Rattle.worker_pool.specs.Opened.{AreTied, ReadsMarks, ties_of};
 
 use crate::opened::Chair;
 use boxcar::Vec as Row;
@@ -36,7 +36,7 @@ pub(crate) fn seat_all<J: Naming>(
     chairs: Vec<Chair>,
 ) -> Result<Seated<J>, AllocError>
     requires tied { AreTied J.names (ties_of chairs.items) }
-    requires reads { AllByRecursion (IsReader J.marks) chairs.items }
+    requires reads { AllByRecursion (ReadsMarks J.marks) chairs.items }
     requires count { length chairs.items ≡ J.sessions }
     ensures places { IfOk result (λ made. PlacesKept J.entries J.names [] made.places.items) }
     ensures count { IfOk result (λ made. vec_len made.places ≡ J.sessions) }
@@ -74,7 +74,7 @@ where
     P: CrashPages + Drop,
     requires seated { AllByRecursion (IsSeated J.marks) sitters.items }
     ensures fresh { IfOk result (λ sessions. AllByRecursion (IsFresh J.marks) sessions.items) }
-    ensures numbers { IfOk result (λ sessions. numbers_of sessions.items ≡ numbers_in sitters.items) }
+    ensures numbers { IfOk result (λ sessions. numbers_named sessions.items ≡ numbers_in sitters.items) }
 {
     let mut sessions = Vec::with_capacity(alloc, sitters.len())?;
     for sitter in sitters {

@@ -5,7 +5,7 @@ ghost use Rattle.history.specs.ListMachine.{Machine};
 ghost use Rattle.btree.specs.Leaves.{rows_of};
 ghost use Rattle.dc_core.specs.DcView.{leaves};
 ghost use Rattle.node_laws.specs.Stepping.{Chain};
-ghost use Rattle.node_laws.specs.Simulation.{LeadsAll, Stands, IsSettled};
+ghost use Rattle.node_laws.specs.Simulation.{LeadsAll, NodeStandsFor, IsSettled};
 
 use crate::world::World;
 use node_laws::{Event, Out};
@@ -24,7 +24,7 @@ pub fn drive<D: CrashLog, P: CrashPages>(
 ) -> Result<Vec<Out>, Refusal>
     ensures chain { IfOk result (λ outs. Chain world.old events.now outs.items world.new) }
     ensures run { IfOk result (λ outs. LeadsAll world.old events.now outs.items world.new) }
-    ensures rows { (m : Machine) → Stands world.new m → IsSettled world.new
+    ensures rows { (m : Machine) → NodeStandsFor world.new m → IsSettled world.new
         → rows_of (leaves world.new.dc) ≡ plain m.h }
     ensures refused { OnErr result (world.new ≡ world.old) }
     ensures memory { IsOkUnless result Refusal.NoMemory }

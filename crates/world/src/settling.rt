@@ -1,7 +1,7 @@
 //! Rounds, until none is left.
 ghost use Rattle.std.specs.Prelude.{◌≡◌, ◌∷◌, []};
 ghost use Rattle.node_laws.specs.Kept.{IsKept};
-ghost use Rattle.node_laws.specs.Rounds.{Settles, Does, IsNext, IsExchange, events_of, exchange, fewer};
+ghost use Rattle.node_laws.specs.Rounds.{Settles, Does, IsNextRound, IsExchange, events_of, exchange, fewer};
 
 use crate::world::World;
 use node_laws::{Event, Out, Round};
@@ -48,7 +48,7 @@ fn play<D: CrashLog, P: CrashPages>(
     out: &mut Vec<Out>,
 ) -> Result<(), Refusal>
     requires kept { IsKept world.old }
-    requires next { IsNext world.old round }
+    requires next { IsNextRound world.old round }
     ensures { Does world.old (events_of world.old round) out.old.items out.new.items result world.new }
 {
     match round {

@@ -11,12 +11,12 @@ ghost use Rattle.dc_core.specs.DcView.{leaves};
 ghost use Rattle.tc_core.specs.Causes.{begin_refusal};
 ghost use Rattle.node_laws.specs.Halves.{node_of};
 ghost use Rattle.node_laws.specs.Node.{fresh_node, joined, if_up};
-ghost use Rattle.node_laws.specs.Simulation.{Stands};
+ghost use Rattle.node_laws.specs.Simulation.{NodeStandsFor};
 ghost use Rattle.node_laws.specs.Stepping.{IsStep};
 ghost use Rattle.simulation.specs.Reading.{machine_read};
 ghost use Rattle.node_laws.specs.Kept.{IsKept, IsRebuildable, IsFreshDc};
 ghost use Rattle.node_laws.specs.Promises.{Promises};
-ghost use Rattle.node_laws.specs.Rounds.{IsNext, IsAtRest, AreApart, round_for, recovery_round};
+ghost use Rattle.node_laws.specs.Rounds.{IsNextRound, IsAtRest, AreApart, round_for, recovery_round};
 
 use crate::node::Node;
 use dc_core::Dc;
@@ -57,7 +57,7 @@ impl World<MemLog, MemPages> {
     /// A new node: nothing is logged, stored or sent, and no session runs. Refused NoMemory.
     pub fn new(alloc: Global) -> Result<World, Refusal>
         ensures node { IfOk result (λ world. world ≡ fresh_node) }
-        ensures stands { IfOk result (λ world. Stands world fresh) }
+        ensures stands { IfOk result (λ world. NodeStandsFor world fresh) }
         ensures memory { IfErr result (λ refusal. refusal ≡ Refusal.NoMemory) }
     {
         Ok(World {
@@ -74,7 +74,7 @@ impl<D: CrashLog, P: CrashPages> World<D, P> {
         requires log { IsRebuildable tc }
         requires empty { IsFreshDc dc }
         ensures node { result ≡ joined tc dc }
-        ensures stands { Stands result (machine_read tc.log) }
+        ensures stands { NodeStandsFor result (machine_read tc.log) }
     {
         tc.kept();
         dc.kept();
@@ -252,7 +252,7 @@ impl<D: CrashLog, P: CrashPages> World<D, P> {
     /// transaction with an unanswered request, force the log where its record isn't stable, else exchange it; undo
     /// for the least one that is being rolled back; force where records aren't stable.
     pub fn next_round(&self) -> Option<Round>
-        ensures { MatchOption result (IsAtRest self.now) (IsNext self.now) }
+        ensures { MatchOption result (IsAtRest self.now) (IsNextRound self.now) }
     {
         self.kept();
         let Ok(dc) = self.running_dc() else {

@@ -40,9 +40,9 @@ pub(super) enum Below {
 impl Model for Node {
     ghost use Rattle.std.specs.Coded.{codes};
     ghost use Rattle.record_key.specs.Table.{table_code};
-    ghost use Rattle.btree.specs.Nodes.{NodeView};
+    ghost use Rattle.btree.specs.Nodes.{TreeNodeView};
 
-    ghost Value = { NodeView };
+    ghost Value = { TreeNodeView };
 
     ghost coded = { Prim.hlevel (codes, table_code) };
 

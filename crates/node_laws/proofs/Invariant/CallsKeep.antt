@@ -15,7 +15,7 @@ use Rattle.record_key.specs.Order.{ends_above, HasKeys}
 use Rattle.history.specs.Legal.{Fits, IsLatestOrNone, Stands, Inverts}
 use Rattle.history.specs.Log.{record_at, answer_of, IsOpBy}
 use Rattle.range_locks.specs.declared.span.Span.{Span}
-use Rattle.range_locks.specs.Locks.{IsFree}
+use Rattle.range_locks.specs.Locks.{IsGrantable}
 use Rattle.logical_log.specs.LogView.{is_spent, spent_refusal}
 use Rattle.codec.specs.declared.reply.Reply.{Reply}
 use Rattle.codec.specs.declared.reply.Reply.TheVariants as says
@@ -101,8 +101,8 @@ pub act_keeps : (old new : TcView) (t : ℕ) (op : Op) (x : Result ℕ Refusal) 
 act_keeps old new t op (Ok n) k h =
     let o : OpenTxn = h.open_txn in
     let idle = idle_found old t o h.at h.allowed in
-    let free : IsFree old.locks o.txn (changed_span op) =
-    subst (λ (x : ℕ). IsFree old.locks x (changed_span op)) (sym h.at.number) h.free in
+    let free : IsGrantable old.locks o.txn (changed_span op) =
+    subst (λ (x : ℕ). IsGrantable old.locks x (changed_span op)) (sym h.at.number) h.free in
     subst IsTc (sym h.acted)
     (keeps_act old o op k h.at.is idle.waiting idle.reading idle.rolling free
     (unspent (is_spent old.log) h.unspent))
@@ -119,8 +119,8 @@ read_keeps old new t s (Ok n) k h =
     let range : HasKeys (range_of s) =
     not_not (ends_above (range_of s).hi (range_of s).lo)
     (one_false (not (ends_above (range_of s).hi (range_of s).lo)) BadRange allowed.0) in
-    let free : IsFree old.locks o.txn (shared s) =
-    subst (λ (x : ℕ). IsFree old.locks x (shared s)) (sym h.at.number) h.free in
+    let free : IsGrantable old.locks o.txn (shared s) =
+    subst (λ (x : ℕ). IsGrantable old.locks x (shared s)) (sym h.at.number) h.free in
     let less = unspent (nat_le 281474976710655 old.reads) h.unspent in
     subst IsTc (sym h.asked)
     (keeps_ask old o s k h.at.is idle.waiting idle.rolling range free (grind (arith, nat_tests, less)))

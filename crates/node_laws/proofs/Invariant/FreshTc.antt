@@ -4,13 +4,13 @@ use Rattle.std.proofs.lemmas.List.Elements.{All-nil}
 use Rattle.range_locks.proofs.Tables.{empty_table}
 use Rattle.restart.specs.Losers.{IsLoser, IsAt, IsUndone}
 use Rattle.stable.specs.Usage.{unused}
-use Rattle.tc_core.specs.TcView.{fresh}
+use Rattle.tc_core.specs.TcView.{fresh_tc}
 use Rattle.tc_core.specs.Kept.{IsTc}
 use Rattle.tc_core.proofs.Low.{may_none}
 
 -- nothing is open at first
-pub fresh_tc : IsTc (fresh unused)
-fresh_tc = record {
+pub fresh_tc_kept : IsTc (fresh_tc unused)
+fresh_tc_kept = record {
   legal = tt;
   within = omega arith;
   few = record { records = omega arith; reads = omega arith };

@@ -45,7 +45,7 @@ use Rattle.node_laws.specs.Kept.{IsKept, IsAnsweredBy, IsReadTrue, InSession, Is
 use Rattle.node_laws.specs.Source.{Source, IsWaiting, own}
 use Rattle.node_laws.proofs.Invariant.AtKeys.{answered_captured}
 use Rattle.node_laws.proofs.Invariant.Sources.{unwaited, live, run_live, of_source}
-use Rattle.node_laws.specs.Simulation.{Stands, clients, told_committed}
+use Rattle.node_laws.specs.Simulation.{NodeStandsFor, clients, told_committed}
 use Rattle.node_laws.proofs.Invariant.CallsKeep.{reconnect_keeps, session_keeps, recover_keeps, low_water_keeps, checkpoint_keeps}
 use Rattle.node_laws.proofs.Machine.Standing.{stands_logged, stands_reconnected, stands_lost_compensated, stands_lost_ended}
 use Rattle.tc_core.proofs.KeepsTc.{reading_at}
@@ -260,7 +260,7 @@ sent_past w n o k serves requests =
 pub recovers : (old new : NodeView) (q : Request) (p : Phase) → old.tc.phase ≡ p → IsKept old
     → SendsAt old.tc p q new.tc
     → IsTc new.tc → new ≡ record old { tc = new.tc; requests = old.requests ++ q ∷ [] }
-    → IsKept new × ((m : Machine) → Stands old m → Stands new m)
+    → IsKept new × ((m : Machine) → NodeStandsFor old m → NodeStandsFor new m)
 recovers old new q phase.Unconnected at k h after left = absurd h
 recovers old new q phase.Connecting at k h after left =
     let same : new ≡ with_request old q =

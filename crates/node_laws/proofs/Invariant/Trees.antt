@@ -17,7 +17,7 @@ use Rattle.page.specs.Honest.{IsHonestLeaf, IsCapturedTo}
 use Rattle.page.proofs.Raising.{honest_raised}
 use Rattle.btree.specs.Leaves.{leaf_at}
 use Rattle.btree.specs.Parting.{middle, may_split_at, may_merge_at, split_at, merged_at}
-use Rattle.btree.specs.TreeLaw.{AreHonest, AreCapturedAt}
+use Rattle.btree.specs.TreeLaw.{AreHonestLeaves, AreCapturedAt}
 use Rattle.btree.proofs.AtKey.{captured_split, captured_merged, captured_raised}
 use Rattle.btree.proofs.Changing.{all_mapped}
 use Rattle.btree.proofs.Merging.{both_there, pair_all}
@@ -77,7 +77,7 @@ are_captured w p k all may =
 
 -- ---- parts of what is true to the source
 
-are_honest : (w : NodeView) (k : IsKept w) → AreHonest k.source.log (leaves w.dc)
+are_honest : (w : NodeView) (k : IsKept w) → AreHonestLeaves k.source.log (leaves w.dc)
 are_honest w k = k.true_to.leaves
 
 -- a leaf without an entry above the known end has captured sure numbers only

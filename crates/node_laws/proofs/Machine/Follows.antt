@@ -16,10 +16,10 @@ use Rattle.history.specs.declared.record.Record.TheVariants as is
 use Rattle.history.specs.Log.{record_at}
 use Rattle.history.specs.ListMachine.{Machine, Line, Call, ToBegin, ToAct, ToRead, ToSave, ToGoBack, ToRollBack, ToCommit, IsRefused, Begins, Acts as acts, Reads, Saves as saves_line, GoesBack as goes_back, RollsBack as rolls_back_line, Commits, TellsRolledBack, TellsBack, asked_range, asked_span, Steps}
 use Rattle.simulation.specs.View.{StandsFor}
-use Rattle.simulation.specs.Running.{Leads as LeadsTo}
+use Rattle.simulation.specs.Running.{LeadsOn as LeadsTo}
 use Rattle.range_locks.specs.declared.span.Span.{Span as Keys}
 use Rattle.range_locks.specs.declared.span.Span.TheVariants.{Key, Range}
-use Rattle.range_locks.specs.Locks.{IsFree}
+use Rattle.range_locks.specs.Locks.{IsGrantable}
 use Rattle.tc_core.specs.declared.open_txn.OpenTxn.{OpenTxn}
 use Rattle.tc_core.specs.declared.open_txn.Read.{Read}
 use Rattle.tc_core.specs.declared.open_txn.Rollback.{Rollback}
@@ -33,7 +33,7 @@ use Rattle.tc_core.specs.TcView.{TcView, used_so}
 use Rattle.tc_core.specs.Refusing.{Refuses}
 use Rattle.tc_core.specs.Causes.{serving_refusal, begin_refusal, commit_refusal, idle_refusal, read_refusal, save_refusal, saves_of, back_refusal, has_savepoint, undo_refusal, answered_refusal, undo_logs, RefusesTaking}
 use Rattle.logical_log.specs.Undoing.{inverse_at, next_at}
-use Rattle.tc_core.specs.Changes.{begun, acted, acted_txn, asked_read, reading_txn, shared, saved, saved_txn, going_back, going_back_txn, rolled, rolling_txn, committed, compensated, compensated_txn, ended, is_back, back_txn, forced}
+use Rattle.tc_core.specs.Changes.{begun, acted, acted_txn, asked_read, reading_txn, shared, saved, saved_txn, going_back, going_back_txn, rolled, rolling_txn, committed, compensated, compensated_txn, wholly_undone, is_back, back_txn, forced}
 use Rattle.tc_core.specs.Calls.{IsAt, Acts, AsksRead, Saves, GoesBack, RollsBack, ReadGives, UndoGives, UndoesStep, Undoes}
 use Rattle.tc_core.specs.Kept.{IsTc}
 use Rattle.tc_core.specs.Locking.{is_listed}
@@ -48,7 +48,7 @@ use Rattle.node_laws.specs.declared.event.Out.{Out}
 use Rattle.node_laws.specs.declared.event.Out.TheVariants as out
 use Rattle.node_laws.specs.Node.{NodeView, with_tc, Calls, BeginsTo, ActsTo, ReadsTo, SavesTo, GoesBackTo, RollsBackTo, CommitsTo, UndoesTo, ForcesTo}
 use Rattle.node_laws.specs.Kept.{IsKept}
-use Rattle.node_laws.specs.Simulation.{Leads, Stands, StepsIf, lines_of, clients, query_of, told_committed}
+use Rattle.node_laws.specs.Simulation.{Leads, NodeStandsFor, StepsIf, lines_of, clients, query_of, told_committed}
 use Rattle.node_laws.proofs.Machine.Undone.{undone_above}
 use Rattle.node_laws.proofs.Invariant.CallsKeep.{commit_found, begin_keeps, act_keeps, read_keeps, save_keeps, back_keeps, rollback_keeps, commit_keeps, undo_keeps, force_keeps}
 use Rattle.node_laws.proofs.Machine.Standing.{stands_begun, stands_acted, stands_asked, stands_saved, stands_going_back, stands_rolled, stands_committed, stands_compensated, stands_ended, stands_back, stands_forced}
@@ -73,12 +73,12 @@ at_tc old new tc e output left same h = at_new old new (with_tc old tc) e output
 
 -- an event without a line, after which the node stands for what it stood for
 pub no_line : (old new : NodeView) (e : Event) (output : Out) → lines_of e output ≡ Some []
-    → ((m : Machine) → Stands old m → Stands new m) → Leads old e output new
+    → ((m : Machine) → NodeStandsFor old m → NodeStandsFor new m) → Leads old e output new
 no_line old new e output none h m stands = (m, subst (λ x. StepsIf m x m) (sym none) refl, h m stands)
 
 -- an event with one line
 pub one_line : (old new : NodeView) (e : Event) (output : Out) (line : Line) → lines_of e output ≡ Some (line ∷ [])
-    → ((m : Machine) → Stands old m → LeadsTo (clients old.tc) m line (clients new.tc)) → Leads old e output new
+    → ((m : Machine) → NodeStandsFor old m → LeadsTo (clients old.tc) m line (clients new.tc)) → Leads old e output new
 one_line old new e output line is h m stands =
     let l = h m stands in (l.0, subst (λ x. StepsIf m x l.0) (sym is) (l.0, l.1, refl), l.2)
 
@@ -117,7 +117,7 @@ kept_left old new k left which = subst IsKept (sym (left ∙ ap (with_tc old) wh
 -- so a refused call follows
 refused : (old new : NodeView) (e : Event) (call : Call) (r : Refusal) → IsKept old
     → lines_of e (out.Refused r) ≡ Some (IsRefused call r ∷ []) → new ≡ with_tc old new.tc
-    → IsLeft old.tc new.tc → ((m : Machine) → Stands old m → RefusesSo m call r new.tc)
+    → IsLeft old.tc new.tc → ((m : Machine) → NodeStandsFor old m → RefusesSo m call r new.tc)
     → Follows old e (out.Refused r) new
 refused old new e call r k line left which h = record {
   leads = one_line old new e (out.Refused r) (IsRefused call r) line
@@ -177,8 +177,8 @@ follows_act old new t op (out.Logged n) k h =
     let o : OpenTxn = a.open_txn in
     let tc : TcView = acted old.tc o op in
     let idle = idle_found old.tc t o a.at a.allowed in
-    let free : IsFree old.tc.locks o.txn (changed_span op) =
-    subst (λ (x : ℕ). IsFree old.tc.locks x (changed_span op)) (sym a.at.number) a.free in
+    let free : IsGrantable old.tc.locks o.txn (changed_span op) =
+    subst (λ (x : ℕ). IsGrantable old.tc.locks x (changed_span op)) (sym a.at.number) a.free in
     let after : IsTc tc = subst IsTc a.acted (act_keeps old.tc new.tc t op (Ok n) k.tc a) in
     at_tc old new tc (event.Act t op) (out.Logged n) h.1 a.acted (record {
       leads = one_line old (with_tc old tc) (event.Act t op) (out.Logged n) (acts t op n) refl
@@ -229,9 +229,9 @@ follows_read old new t s n e k line h =
     ap (λ (x : Span). ends_above x.range.hi x.range.lo) (same_span s)
     ∙ not_not (ends_above (range_of s).hi (range_of s).lo)
     (one_false (not (ends_above (range_of s).hi (range_of s).lo)) BadRange allowed.0) in
-    let free : IsFree old.tc.locks o.txn (asked_span (query_of s)) =
-    subst (λ (x : Span). IsFree old.tc.locks o.txn x) (sym (same_span s))
-    (subst (λ (x : ℕ). IsFree old.tc.locks x (shared s)) (sym a.at.number) a.free) in
+    let free : IsGrantable old.tc.locks o.txn (asked_span (query_of s)) =
+    subst (λ (x : Span). IsGrantable old.tc.locks o.txn x) (sym (same_span s))
+    (subst (λ (x : ℕ). IsGrantable old.tc.locks x (shared s)) (sym a.at.number) a.free) in
     let after : IsTc tc = subst IsTc a.asked (read_keeps old.tc new.tc t s (Ok n) k.tc a) in
     at_tc old new tc e (out.Asked n) h.1 a.asked (record {
       leads = one_line old (with_tc old tc) e (out.Asked n) (Reads t (query_of s)) line
@@ -461,7 +461,7 @@ module _ (old : NodeView) (t : ℕ) (k : IsKept old) where
       → o.rolling ≡ Some r → new ≡ with_tc old new.tc → IsTc new.tc
       → Undoes old.tc o (Some r) (undo.RolledBack u) new.tc → Follows old (event.Undo t) (out.RolledBack u) new
   ends new u o r at allowed rolling left is_tc h =
-      let tc : TcView = ended old.tc o.txn in
+      let tc : TcView = wholly_undone old.tc o.txn in
       let after : IsTc tc = subst IsTc h.3 is_tc in
       let e : Record = is.End o.txn in
       at_tc old new tc (event.Undo t) (out.RolledBack u) left h.3 (record {

@@ -14,7 +14,7 @@ use Rattle.dc_core.proofs.Recoverable.{recoverable_served}
 use Rattle.dc_core.proofs.Checked.{checked_served}
 use Rattle.tc_core.specs.Kept.{IsTc}
 use Rattle.stable.specs.Usage.{unused}
-use Rattle.tc_core.specs.TcView.{fresh}
+use Rattle.tc_core.specs.TcView.{fresh_tc}
 use Rattle.record_key.specs.declared.refusal.Refusal.TheVariants.{NotConnected, BadRange}
 use Rattle.node_laws.specs.Component.{DcSide, dc_used}
 use Rattle.node_laws.proofs.Restarts.Crashes.{crash_keeps, keeps_up, used_keeps}
@@ -24,7 +24,7 @@ use Rattle.std.proofs.lemmas.List.{take_more}
 use Rattle.history.specs.ListMachine as machine
 use Rattle.history.specs.ListMachine.{Machine, OfKey, OfRange, Call, ToBegin, ToAct, ToRead, ToSave, ToGoBack, ToRollBack, ToCommit, IsRefused}
 use Rattle.codec.specs.declared.reply.Reply.{Reply}
-use Rattle.dc_core.specs.DcView.{DcView, fresh as fresh_dc}
+use Rattle.dc_core.specs.DcView.{DcView, fresh_tc as fresh_dc}
 use Rattle.node_laws.specs.declared.event.Event.{Event}
 use Rattle.node_laws.specs.declared.event.Event.TheVariants as event
 use Rattle.node_laws.specs.declared.event.Out.{Out}
@@ -32,8 +32,8 @@ use Rattle.node_laws.specs.declared.event.Out.TheVariants as out
 use Rattle.node_laws.specs.Node.{NodeView, with_dc, StepsTo, IfUp, IfTcUp, IfDcUp, down_refusal, ServesTo, Served, PartsTo, JoinsTo, KeepsUpTo, WritesTo, CrashesDcTo, RestartsDcTo, FailsDcTo, fresh_node}
 use Rattle.node_laws.specs.Stepping.{IsStep, Chain}
 use Rattle.node_laws.specs.Kept.{IsKept, IsSent}
-use Rattle.node_laws.specs.Simulation.{StepsIf, lines_of, Happens, Run, Leads, LeadsAll, Stands}
-use Rattle.node_laws.proofs.Invariant.FreshTc.{fresh_tc}
+use Rattle.node_laws.specs.Simulation.{StepsIf, lines_of, Happens, Run, Leads, LeadsAll, NodeStandsFor}
+use Rattle.node_laws.proofs.Invariant.FreshTc.{fresh_tc_kept}
 use Rattle.simulation.proofs.Told.{fresh_stands}
 use Rattle.node_laws.proofs.Invariant.ByNumber.{all_at}
 use Rattle.node_laws.proofs.Invariant.Carries.{replied}
@@ -282,10 +282,10 @@ follows old new (event.FailDc device call) output k tc is h = follows_fail old n
 
 -- a new node
 pub kept_fresh : IsDc (fresh_dc unused unused) → IsKept fresh_node
-kept_fresh is = kept_joined (fresh unused) unused unused fresh_tc tt refl refl refl refl is
+kept_fresh is = kept_joined (fresh_tc unused) unused unused fresh_tc_kept tt refl refl refl refl is
 
 -- and stands for the machine to which nothing was done
-pub fresh_stands_for : Stands fresh_node machine.fresh
+pub fresh_stands_for : NodeStandsFor fresh_node machine.fresh
 fresh_stands_for = fresh_stands
 
 -- a run goes on by one event

@@ -18,7 +18,7 @@ use Rattle.recovery_laws.specs.Ready.{IsHonestTo}
 use Rattle.stable.specs.Usage.{Usage}
 use Rattle.system_txn.specs.Devices.{pages_of}
 use Rattle.system_txn.proofs.Recoverable.{recoverable_fresh}
-use Rattle.dc_core.specs.DcView.{fresh as fresh_dc}
+use Rattle.dc_core.specs.DcView.{fresh_dc}
 use Rattle.dc_core.specs.Kept.{IsDc}
 use Rattle.dc_core.proofs.Checked.{fresh_checked}
 use Rattle.tc_core.specs.declared.phase.Phase.TheVariants as phase

@@ -30,7 +30,7 @@ use Rattle.tc_core.proofs.Losers.{listed_loser, late_at}
 use Rattle.tc_core.proofs.KeepsTc.{reading_at}
 use Rattle.node_laws.specs.Node.{NodeView}
 use Rattle.node_laws.specs.Kept.{IsKept}
-use Rattle.node_laws.specs.Simulation.{Stands, clients, rolling_as, reading_as, waiting_as, doing_of, doing_in}
+use Rattle.node_laws.specs.Simulation.{NodeStandsFor, clients, rolling_as, reading_as, waiting_as, doing_of, doing_in}
 use Rattle.node_laws.specs.Source.{own}
 use Rattle.node_laws.proofs.Invariant.AtKeys.{honest_at, answered_captured}
 use Rattle.node_laws.proofs.Invariant.Unread.{unread}
@@ -120,7 +120,7 @@ module _ (w : NodeView) (o : OpenTxn) (r : Read) (k : IsKept w) (at : find o.txn
       (answered_captured w k live past n q asks (answered_there key within n q asks on))))
 
   -- and that is what the plain map has
-  pub logged_plain : (m : Machine) → Stands w m → (key : Bytes) → has_key (range_of r.span) key ≡ true
+  pub logged_plain : (m : Machine) → NodeStandsFor w m → (key : Bytes) → has_key (range_of r.span) key ≡ true
       → value_on key log ≡ get (plain m.h) key
   logged_plain m stands key within =
       sym (plain_is_the_logs (clients w.tc) m key k.tc.legal k.right stands (λ n t q by on uncrossed. (

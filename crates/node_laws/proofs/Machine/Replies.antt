@@ -31,7 +31,7 @@ use Rattle.tc_core.specs.TcView.{TcView, is_none_lost, is_serving}
 use Rattle.system_txn.specs.Checked.{IsChecked}
 use Rattle.tc_core.specs.Changes.{answered, answered_txn, answered_lost, was_told, told_txn, checkpointed, undoing_or_running}
 use Rattle.tc_core.specs.Replies.{Outcome, takes, awaiting, lacks, told_lost, next_phase, passed, on_awaited, on_answered, on_connected, on_redo_ended, on_checkpointed, on_reply, on_row, on_rows, is_number, is_key, is_range, span_read, reader, logs, reply_refusal}
-use Rattle.tc_core.specs.Kept.{IsTc, IsPhase, IsDue}
+use Rattle.tc_core.specs.Kept.{IsTc, IsPhase, IsOwedAnswer}
 use Rattle.tc_core.proofs.KeepsReads.{reader_is}
 use Rattle.tc_core.proofs.KeepsTc.{open_at, waits_at, awaited_is}
 use Rattle.node_laws.proofs.Machine.Waited.{lacking_due, lost_if}
@@ -42,7 +42,7 @@ use Rattle.node_laws.specs.Node.{NodeView, with_tc, as_out, IsUnsent, Taken, Unt
 use Rattle.node_laws.specs.Kept.{IsKept, IsTrueOfReader, InSession, IsValue, AreRows, IsAnswerIn, IsCaptured, IsAnswered, IsGiven, IsServed, AreSessions}
 use Rattle.node_laws.specs.Source.{Source, IsWaiting, own}
 use Rattle.node_laws.proofs.Invariant.Sources.{live, of_log}
-use Rattle.node_laws.specs.Simulation.{Leads, Stands, lines_of, clients}
+use Rattle.node_laws.specs.Simulation.{Leads, NodeStandsFor, lines_of, clients}
 use Rattle.node_laws.proofs.Invariant.ByNumber.{all_at}
 use Rattle.node_laws.proofs.Invariant.CallsKeep.{reply_keeps}
 use Rattle.node_laws.proofs.Machine.Awaited.{comp_waited, reads_nothing}
@@ -61,7 +61,7 @@ Goes w i x = IsTc x.1 → Follows w (event.Reply i) (as_out x.0) (with_tc w x.1)
 
 -- an outcome of which no client is told
 quietly : (w : NodeView) (i : ℕ) (x : Outcome) → lines_of (event.Reply i) (as_out x.0) ≡ Some []
-    → ((m : Machine) → Stands w m → StandsFor (clients x.1) m) → IsKept (with_tc w x.1)
+    → ((m : Machine) → NodeStandsFor w m → StandsFor (clients x.1) m) → IsKept (with_tc w x.1)
     → Follows w (event.Reply i) (as_out x.0) (with_tc w x.1)
 quietly w i x none stands kept =
     record { leads = no_line w (with_tc w x.1) (event.Reply i) (as_out x.0) none stands; kept = kept }
@@ -212,7 +212,7 @@ lost_answers w s n a k after t =
     (taken_captured w s n (Some a) k t some given.op given.requests))
 
 -- is told to nobody
-lost_answered : (w : NodeView) (i s n : ℕ) (a : Answer) (k : IsKept w) → IsDue w.tc.log w.tc.losers.below n
+lost_answered : (w : NodeView) (i s n : ℕ) (a : Answer) (k : IsKept w) → IsOwedAnswer w.tc.log w.tc.losers.below n
     → IsTaken w k s n (Some a) → Goes w i (told_lost (record_at w.tc.log n) n, passed (answered_lost w.tc n a) n)
 lost_answered w i s n a k due t after =
     quietly w i (told_lost (record_at w.tc.log n) n, passed (answered_lost w.tc n a) n) (by (record_at w.tc.log n))

@@ -30,7 +30,7 @@ use Rattle.node_laws.specs.Kept.{IsKept, IsServed}
 use Rattle.node_laws.proofs.Invariant.Running.{past_is}
 use Rattle.tc_core.specs.Kept.{IsPhase, IsPhaseOf, IsTc}
 use Rattle.dc_core.specs.Tends.{may_merge}
-use Rattle.node_laws.specs.Simulation.{Stands, IsSettled, AreUnrolled, clients, doing_in}
+use Rattle.node_laws.specs.Simulation.{NodeStandsFor, IsSettled, AreUnrolled, clients, doing_in}
 use Rattle.node_laws.specs.Rounds.{AreIdle, IsAtRest, IsApart, AreRunning}
 use Rattle.simulation.proofs.Answering.{plain_uncrossed}
 use Rattle.node_laws.proofs.Machine.Awaited.{IsOpOf, op_waited}
@@ -114,7 +114,7 @@ calm w k running unrolled =
         ∙ flat_undoes_none o n (flat o (sym (ap is_rolling some) ∙ unrolled t))
 
 -- a settled node holds what a plain map holds after the operations that stand
-pub settled_rows : (w : NodeView) (m : Machine) → IsKept w → Stands w m → IsSettled w
+pub settled_rows : (w : NodeView) (m : Machine) → IsKept w → NodeStandsFor w m → IsSettled w
     → rows_of (leaves w.dc) ≡ plain m.h
 settled_rows w m k stands settled =
     same_table (rows_of (leaves w.dc)) (plain (hist w.tc.log))

@@ -21,7 +21,7 @@ use Rattle.log_laws.proofs.Strict.{end_number, end_ends}
 use Rattle.simulation.specs.View.{View, Doing, Ready, Awaits, Looks, Rolls, is_to_undo, IsCommitAt, AreItsKeys, StandsFor}
 use Rattle.simulation.specs.Laws.{after_lost}
 use Rattle.simulation.specs.Views.{HasTrueSpans, IsUncommitting}
-use Rattle.simulation.specs.Running.{put, Leads, does, after_begin, after_act, after_answer, after_save, after_go_back, after_read}
+use Rattle.simulation.specs.Running.{put, LeadsOn, does, after_begin, after_act, after_answer, after_save, after_go_back, after_read}
 use Rattle.simulation.proofs.Calling.{begin_is_a_step, act_is_a_step}
 use Rattle.simulation.proofs.Answering.{answer_is_told}
 use Rattle.simulation.proofs.Saving.{save_is_a_step, go_back_is_a_step}
@@ -45,9 +45,9 @@ use Rattle.tc_core.specs.TcView.{TcView}
 use Rattle.restart.specs.Losers.{LosersView, txns, IsLoser}
 use Rattle.tc_core.specs.Causes.{saves_of}
 use Rattle.logical_log.specs.Undoing.{inverse_at, next_at}
-use Rattle.tc_core.specs.Changes.{let_go, forced, logged_session, reconnected, begun_txn, begun, acted_txn, acted, reading_txn, shared, asked_read, told_txn, was_told, saved_txn, saved, rolling_txn, rolled, going_back_txn, going_back, committed, compensated_txn, compensated, ended, back_txn, is_back, answered_txn, answered, answered_lost, lost_comp, lost_compensated, lost_ended, checkpointed}
+use Rattle.tc_core.specs.Changes.{let_go, forced, logged_session, reconnected, begun_txn, begun, acted_txn, acted, reading_txn, shared, asked_read, told_txn, was_told, saved_txn, saved, rolling_txn, rolled, going_back_txn, going_back, committed, compensated_txn, compensated, wholly_undone, back_txn, is_back, answered_txn, answered, answered_lost, lost_comp, lost_compensated, lost_ended, checkpointed}
 use Rattle.tc_core.specs.Locking.{is_listed, is_holder}
-use Rattle.tc_core.specs.Kept.{IsTc, IsDue, commits_in}
+use Rattle.tc_core.specs.Kept.{IsTc, IsOwedAnswer, commits_in}
 use Rattle.tc_core.proofs.Finding.{find_here, find_there, found_number, without_same}
 use Rattle.node_laws.specs.Simulation.{query_of, doing_of, doing_in, clients, told_committed}
 use Rattle.node_laws.proofs.Machine.Clients.{put_is, doing_now, doing_kept, saves_replaced, saves_kept, doing_without, saves_without, spans_put, rests, awaits, looks, rolls}
@@ -90,7 +90,7 @@ true_spans w k = record {
 
 -- what is free by the locks is free for the machine
 pub free_there : (w : TcView) (m : Machine) (t : ℕ) (s : Span) → IsTc w → StandsFor (clients w) m
-    → locks.IsFree w.locks t s → IsFree m t s
+    → locks.IsGrantable w.locks t s → IsFree m t s
 free_there w m t s k stands free = free_by_true_spans (clients w) m t s stands (true_spans w k) free
 
 -- a transaction that does this
@@ -104,7 +104,7 @@ idle_rests o i = rests o i.rolling i.reading i.waiting
 -- a transaction begins
 pub stands_begun : (w : TcView) (m : Machine) → IsTc w → find (length w.log + 1) w.open_txns ≡ None
     → is_listed w.committing (length w.log + 1) ≡ false
-    → StandsFor (clients w) m → Leads (clients w) m (Begins (length w.log + 1)) (clients (begun w))
+    → StandsFor (clients w) m → LeadsOn (clients w) m (Begins (length w.log + 1)) (clients (begun w))
 stands_begun w m k unfound unlisted stands =
     let t : ℕ = length w.log + 1 in
     let new : OpenTxn = begun_txn t in
@@ -140,8 +140,8 @@ module _ (w : TcView) (m : Machine) (o : OpenTxn) (k : IsTc w) (at : find o.txn 
     (stands : StandsFor (clients w) m) where
   -- acts
   pub stands_acted : (op : Op) → IsIdleTxn o → IsTc (acted w o op)
-      → locks.IsFree w.locks o.txn (changed_span op)
-      → Leads (clients w) m (Acts o.txn op (length w.log + 1)) (clients (acted w o op))
+      → locks.IsGrantable w.locks o.txn (changed_span op)
+      → LeadsOn (clients w) m (Acts o.txn op (length w.log + 1)) (clients (acted w o op))
   stands_acted op idle after free =
       let s : Span = changed_span op in
       let n : ℕ = length w.log + 1 in
@@ -158,8 +158,8 @@ module _ (w : TcView) (m : Machine) (o : OpenTxn) (k : IsTc w) (at : find o.txn 
 
   -- asks for a read
   pub stands_asked : (s : Keys) → IsIdleTxn o → HasKeys (asked_range (query_of s))
-      → locks.IsFree w.locks o.txn (asked_span (query_of s)) → asked_span (query_of s) ≡ shared s
-      → Leads (clients w) m (Reads o.txn (query_of s)) (clients (asked_read w o s))
+      → locks.IsGrantable w.locks o.txn (asked_span (query_of s)) → asked_span (query_of s) ≡ shared s
+      → LeadsOn (clients w) m (Reads o.txn (query_of s)) (clients (asked_read w o s))
   stands_asked s idle range free same =
       let n : ℕ = w.reads + 1 in
       let new : OpenTxn = reading_txn o n s in
@@ -184,7 +184,7 @@ module _ (w : TcView) (m : Machine) (o : OpenTxn) (k : IsTc w) (at : find o.txn 
 
   pub stands_row : (r : Read) (key : Bytes) (value : Option Bytes) → o.rolling ≡ None → o.waiting ≡ None
       → o.reading ≡ Some r → r.span ≡ Key key → value ≡ get (plain m.h) key
-      → Leads (clients w) m (TellsRow o.txn value) (clients (was_told w o))
+      → LeadsOn (clients w) m (TellsRow o.txn value) (clients (was_told w o))
   stands_row r key value flat still reads is right =
       let l = row_is_told (clients w) m o.txn key value stands
       (does_this w o (Looks (OfKey key)) at (looks o r flat reads ∙ ap (λ s. Looks (query_of s)) is)) right in
@@ -193,7 +193,7 @@ module _ (w : TcView) (m : Machine) (o : OpenTxn) (k : IsTc w) (at : find o.txn 
   pub stands_rows : (r : Read) (lo : Bytes) (hi : Option Bytes) (rows : List (Bytes × Bytes)) → o.rolling ≡ None
       → o.waiting ≡ None → o.reading ≡ Some r → r.span ≡ Range lo hi
       → rows ≡ rows_in (asked_range (OfRange lo hi)) (plain m.h)
-      → Leads (clients w) m (TellsRows o.txn rows) (clients (was_told w o))
+      → LeadsOn (clients w) m (TellsRows o.txn rows) (clients (was_told w o))
   stands_rows r lo hi rows flat still reads is right =
       let l = rows_are_told (clients w) m o.txn lo hi rows stands
       (does_this w o (Looks (OfRange lo hi)) at (looks o r flat reads ∙ ap (λ s. Looks (query_of s)) is)) right in
@@ -201,7 +201,7 @@ module _ (w : TcView) (m : Machine) (o : OpenTxn) (k : IsTc w) (at : find o.txn 
 
   -- sets a savepoint
   pub stands_saved : (s : ℕ) → IsIdleTxn o → length o.saves + 1 ≡ s → s ≤ 16
-      → Leads (clients w) m (Saves o.txn s) (clients (saved w o))
+      → LeadsOn (clients w) m (Saves o.txn s) (clients (saved w o))
   stands_saved s idle number few =
       let new : OpenTxn = saved_txn o (length w.log) in
       let mine : saves_of (find o.txn w.open_txns) ≡ o.saves = ap saves_of at in
@@ -217,7 +217,7 @@ module _ (w : TcView) (m : Machine) (o : OpenTxn) (k : IsTc w) (at : find o.txn 
 
   -- goes back to a savepoint
   pub stands_going_back : (s end : ℕ) → IsIdleTxn o → 1 ≤ s → slice_get o.saves (s - 1) ≡ Some end
-      → Leads (clients w) m (GoesBack o.txn s) (clients (going_back w o s end))
+      → LeadsOn (clients w) m (GoesBack o.txn s) (clients (going_back w o s end))
   stands_going_back s end idle some found =
       let new : OpenTxn = going_back_txn o s end in
       let mine : saves_of (find o.txn w.open_txns) ≡ o.saves = ap saves_of at in
@@ -233,7 +233,7 @@ module _ (w : TcView) (m : Machine) (o : OpenTxn) (k : IsTc w) (at : find o.txn 
       )
 
   -- rolls back wholly
-  pub stands_rolled : IsIdleTxn o → Leads (clients w) m (RollsBack o.txn) (clients (rolled w o))
+  pub stands_rolled : IsIdleTxn o → LeadsOn (clients w) m (RollsBack o.txn) (clients (rolled w o))
   stands_rolled idle =
       let new : OpenTxn = rolling_txn o in
       let l = rollback_is_a_step (clients w) m o.txn stands (does_this w o Ready at (idle_rests o idle)) in (
@@ -269,7 +269,7 @@ module _ (w : TcView) (m : Machine) (o : OpenTxn) (k : IsTc w) (at : find o.txn 
 
   -- logs its Commit
   pub stands_committed : IsIdleTxn o → IsTc (committed w o.txn)
-      → Leads (clients w) m (Commits o.txn) (clients (committed w o.txn))
+      → LeadsOn (clients w) m (Commits o.txn) (clients (committed w o.txn))
   stands_committed idle after =
       let l = commit_is_a_step (clients w) m o.txn after.legal stands (does_this w o Ready at (idle_rests o idle))
       k.within in
@@ -291,8 +291,8 @@ module _ (w : TcView) (m : Machine) (o : OpenTxn) (k : IsTc w) (at : find o.txn 
       (comp_is_no_step (clients w) m o.txn u (next_at w.log u) (inverse_at w.log u) after.legal stands (inr undoes))
 
   -- is rolled back
-  pub stands_ended : (r : Rollback) → o.rolling ≡ Some r → r.savepoint ≡ None → IsTc (ended w o.txn)
-      → Leads (clients w) m (TellsRolledBack o.txn) (clients (ended w o.txn))
+  pub stands_ended : (r : Rollback) → o.rolling ≡ Some r → r.savepoint ≡ None → IsTc (wholly_undone w o.txn)
+      → LeadsOn (clients w) m (TellsRolledBack o.txn) (clients (wholly_undone w o.txn))
   stands_ended r rolling whole after =
       let l = rolled_back_is_told (clients w) m o.txn r.above after.legal stands
       (does_this w o (Rolls None r.above) at (rolls o r rolling ∙ ap (λ s. Rolls s r.above) whole)) in
@@ -304,7 +304,7 @@ module _ (w : TcView) (m : Machine) (o : OpenTxn) (k : IsTc w) (at : find o.txn 
       } in (
         l.0,
         l.1,
-        stands_along (record left { spans = put (clients w).spans o.txn [] }) (clients (ended w o.txn)) l.0 refl refl
+        stands_along (record left { spans = put (clients w).spans o.txn [] }) (clients (wholly_undone w o.txn)) l.0 refl refl
             (λ u. refl) (λ u. refl) (λ u. refl)
             (spans_put w.locks o.txn [] k.locks.table)
             (let_go_is_no_step left l.0 o.txn (gone_view (is.End o.txn) l.0 l.2)
@@ -315,7 +315,7 @@ module _ (w : TcView) (m : Machine) (o : OpenTxn) (k : IsTc w) (at : find o.txn 
   -- is back at its savepoint
   pub stands_back : (r : Rollback) (s : ℕ) → o.rolling ≡ Some r → r.savepoint ≡ Some s → o.waiting ≡ None
       → o.reading ≡ None → ((n : ℕ) → Stands w.log o.txn n → n ≤ r.above)
-      → Leads (clients w) m (TellsBack o.txn s) (clients (is_back w o))
+      → LeadsOn (clients w) m (TellsBack o.txn s) (clients (is_back w o))
   stands_back r s rolling to still unread undone =
       let new : OpenTxn = back_txn o in
       let l = back_is_told (clients w) m o.txn s r.above stands
@@ -330,7 +330,7 @@ module _ (w : TcView) (m : Machine) (o : OpenTxn) (k : IsTc w) (at : find o.txn 
   -- has its answer
   pub stands_answered : (n : ℕ) (a : Answer) → o.rolling ≡ None → o.reading ≡ None → o.waiting ≡ Some n
       → IsLegal (is.Answer n a ∷ w.log) → HasRightAnswers (is.Answer n a ∷ w.log)
-      → Leads (clients w) m (TellsAnswer o.txn a) (clients (answered w o n a))
+      → LeadsOn (clients w) m (TellsAnswer o.txn a) (clients (answered w o n a))
   stands_answered n a flat none waiting legal right =
       let new : OpenTxn = answered_txn o in
       let l = answer_is_told (clients w) m o.txn n a legal right stands
@@ -373,7 +373,7 @@ stands_lost_compensated w m x l k after same loser stands =
 -- its End is logged
 pub stands_lost_ended : (w : TcView) (m : Machine) (t : ℕ) (l : LosersView) → IsTc w → IsTc (lost_ended w t l)
     → l.below ≡ w.losers.below → IsLoser w.log w.losers.below t
-    → StandsFor (clients w) m → Leads (clients w) m (TellsLost t) (clients (lost_ended w t l))
+    → StandsFor (clients w) m → LeadsOn (clients w) m (TellsLost t) (clients (lost_ended w t l))
 stands_lost_ended w m t l k after same loser stands =
     let end : Record = is.End t in
     let listed = loser_listed w.log w.losers k.lost.losers t loser in
@@ -417,7 +417,7 @@ stands_lost_ended w m t l k after same loser stands =
 
 -- a loser's request has its answer, of which nobody is told
 pub stands_lost_answered : (w : TcView) (m : Machine) (n : ℕ) (a : Answer) → IsTc w → IsLegal (is.Answer n a ∷ w.log)
-    → IsDue w.log w.losers.below n → StandsFor (clients w) m
+    → IsOwedAnswer w.log w.losers.below n → StandsFor (clients w) m
     → StandsFor (clients (answered_lost w n a)) m
 stands_lost_answered w m n a k legal due stands =
     undone_is_no_step (clients w) m n a legal stands

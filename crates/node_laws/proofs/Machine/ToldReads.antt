@@ -8,7 +8,7 @@ use Rattle.history.specs.Values.{value_on}
 use Rattle.record_key.specs.Order as keys
 use Rattle.record_key.specs.Order.{is_below, HasKeys, has_key}
 use Rattle.history.specs.ListMachine.{Machine, TellsRow, TellsRows}
-use Rattle.simulation.specs.Running.{Leads as LeadsTo}
+use Rattle.simulation.specs.Running.{LeadsOn as LeadsTo}
 use Rattle.range_locks.specs.declared.span.Span.TheVariants.{Key, Range}
 use Rattle.range_locks.specs.Meant.{range_of}
 use Rattle.tc_core.specs.declared.open_txn.OpenTxn.{OpenTxn}
@@ -19,7 +19,7 @@ use Rattle.tc_core.specs.Kept.{IsReading}
 use Rattle.tc_core.proofs.KeepsTc.{reading_at}
 use Rattle.node_laws.specs.Node.{NodeView}
 use Rattle.node_laws.specs.Kept.{IsKept, AreRowsOf}
-use Rattle.node_laws.specs.Simulation.{Stands, clients}
+use Rattle.node_laws.specs.Simulation.{NodeStandsFor, clients}
 use Rattle.node_laws.proofs.Machine.Standing.{stands_row, stands_rows}
 use Rattle.node_laws.proofs.Machine.Reading.{logged_plain}
 use Rattle.node_laws.proofs.Machine.Rows.{rows_alike}
@@ -33,7 +33,7 @@ low_within r some =
 -- a row is told
 pub tells_row : (w : NodeView) (o : OpenTxn) (n : ℕ) (key : Bytes) → IsKept w → find o.txn w.tc.open_txns ≡ Some o
     → o.reading ≡ Some (record { number = n; span = Key key })
-    → (v : Option Bytes) → v ≡ value_on key w.tc.log → (m : Machine) → Stands w m
+    → (v : Option Bytes) → v ≡ value_on key w.tc.log → (m : Machine) → NodeStandsFor w m
     → LeadsTo (clients w.tc) m (TellsRow o.txn v) (clients (was_told w.tc o))
 tells_row w o n key k at reads v value m stands =
     let r : Read = record { number = n; span = Key key } in
@@ -46,7 +46,7 @@ pub tells_rows : (w : NodeView) (o : OpenTxn) (n : ℕ) (low : Bytes) (high : Op
     → find o.txn w.tc.open_txns ≡ Some o
     → o.reading ≡ Some (record { number = n; span = Range low high }) → (rows : List (Bytes × Bytes))
     → AreRowsOf w.tc.log rows (range_of (Range low high))
-    → (m : Machine) → Stands w m → LeadsTo (clients w.tc) m (TellsRows o.txn rows) (clients (was_told w.tc o))
+    → (m : Machine) → NodeStandsFor w m → LeadsTo (clients w.tc) m (TellsRows o.txn rows) (clients (was_told w.tc o))
 tells_rows w o n low high k at reads rows are m stands =
     let r : Read = record { number = n; span = Range low high } in
     let reading : IsReading w.tc.reads w.tc.locks o r = reading_at w.tc o r k.tc at reads in

@@ -17,7 +17,7 @@ use Rattle.tc_core.specs.declared.open_txn.OpenTxn.{OpenTxn}
 use Rattle.tc_core.specs.OpenTxns.{find}
 use Rattle.tc_core.specs.TcView.{TcView, is_none_lost}
 use Rattle.restart.specs.Losers.{IsLoser}
-use Rattle.tc_core.specs.Kept.{IsDue, IsTc}
+use Rattle.tc_core.specs.Kept.{IsOwedAnswer, IsTc}
 use Rattle.tc_core.proofs.Finding.{found_number, found_own}
 use Rattle.tc_core.specs.Replies.{Outcome, awaiting, lacks, on_lost, passed}
 use Rattle.tc_core.specs.declared.told.Told.TheVariants as told
@@ -35,7 +35,7 @@ pub record IsAwaited (w : TcView) (n : ℕ) : Type 0 where
 
 -- a request is answered, or an open transaction waits for it, or it is a loser's
 abbrev pub IsAnsweredOr : TcView → ℕ → Type 0
-IsAnsweredOr w n = IsSome (answer_of w.log n) ⊎ (IsAwaited w n ⊎ IsDue w.log w.losers.below n)
+IsAnsweredOr w n = IsSome (answer_of w.log n) ⊎ (IsAwaited w n ⊎ IsOwedAnswer w.log w.losers.below n)
 
 pub answered_or_due : (w : TcView) (n : ℕ) (o : Op) → IsTc w → Requests w.log n o → IsAnsweredOr w n
 answered_or_due w n o k requests =
@@ -83,7 +83,7 @@ answered_or w n o k unlost requests = elim (answered_or_due w n o k requests) [
 ]
 
 -- who lacks its answer, and no open transaction waits for it, is a loser's
-pub lacking_due : (w : TcView) (n : ℕ) → IsTc w → lacks w n ≡ true → awaiting w n ≡ None → IsDue w.log w.losers.below n
+pub lacking_due : (w : TcView) (n : ℕ) → IsTc w → lacks w n ≡ true → awaiting w n ≡ None → IsOwedAnswer w.log w.losers.below n
 lacking_due w n k lacking nobody =
     let fits = fits_lacking w n lacking in
     elim (answered_or_due w n fits.op k fits.requested) [

@@ -16,7 +16,7 @@ use Rattle.framed_log.specs.Beginning.{beginning}
 use Rattle.range_locks.specs.Locks.{spans_of}
 use Rattle.restart.specs.Losers.{txns, IsLoser}
 use Rattle.simulation.specs.View.{View, StandsFor, is_begin, is_left_open, opened}
-use Rattle.simulation.specs.Running.{Leads as LeadsTo}
+use Rattle.simulation.specs.Running.{LeadsOn as LeadsTo}
 use Rattle.simulation.specs.Views.{IsUncommitting}
 use Rattle.simulation.proofs.Crash.{crash_is_a_step}
 use Rattle.simulation.proofs.Leftovers.{leftovers_are_no_step, rebuilt_spans_are_no_step}

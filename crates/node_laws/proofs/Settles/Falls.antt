@@ -45,9 +45,9 @@ use Rattle.node_laws.specs.Component.{TcSide, DcSide, dc_used}
 use Rattle.logical_log.specs.LogView.{last_not_session}
 use Rattle.node_laws.specs.Node.{NodeView, AreUp, with_tc, next_connect, ReconnectsTo, RecoversTo, SendsTo, UndoesTo, ForcesTo, RestartsTcTo, RestartsDcTo}
 use Rattle.log_laws.proofs.LegalLogs.{request_number}
-use Rattle.tc_core.specs.Kept.{IsDue as IsDueLost}
+use Rattle.tc_core.specs.Kept.{IsOwedAnswer as IsDueLost}
 use Rattle.node_laws.specs.Kept.{IsKept}
-use Rattle.node_laws.specs.Rounds.{IsDone, IsApart, IsRecovering, IsUndoing, IsDue, IsReader, AreRunning, IsNext, Plays, events_of}
+use Rattle.node_laws.specs.Rounds.{IsDone, IsApart, IsRecovering, IsUndoing, IsDue, IsReader, AreRunning, IsNextRound, Plays, events_of}
 use Rattle.node_laws.specs.Bound.{requests_in, txn_rounds, phase_rounds, is_busy, is_apart, force_rounds, tc_rounds, without_session, down_rounds, session_rounds, lost_rounds, rounds_left}
 use Rattle.node_laws.proofs.Settles.Totals.{total_most, total_share}
 use Rattle.node_laws.proofs.Settles.Counting.{fewer_later, none_above}
@@ -487,7 +487,7 @@ lose_left old new (out.Lost t) at h d = (
 lose_left old new (out.Refused r) at h d = absurd d
 lose_left old new _ at h d = absurd h
 
-pub falls : (old new : NodeView) (r : Round) (outs : List Out) → IsKept old → IsNext old r
+pub falls : (old new : NodeView) (r : Round) (outs : List Out) → IsKept old → IsNextRound old r
     → Plays old (events_of old r) outs new → rounds_left new < rounds_left old
 falls old new r [] k next h = none r h
   where
@@ -574,7 +574,7 @@ undoing_left w waiting u =
     some_together w (undoing_together w waiting u) (omega (arith, e))
 
 -- where a round applies, one at least is left
-pub some_left : (w : NodeView) (r : Round) → IsKept w → IsNext w r → 0 < rounds_left w
+pub some_left : (w : NodeView) (r : Round) → IsKept w → IsNextRound w r → 0 < rounds_left w
 some_left w round.RestartDc k next = let one : down_rounds w.dc_up ≡ 1 = ap down_rounds next in omega (arith, one)
 some_left w round.RestartTc k next = let one : down_rounds w.tc_up ≡ 1 = ap down_rounds next.1 in omega (arith, one)
 some_left w round.Connect k next = let e = apart_rounds w next.0 next.1 in omega (arith, e)

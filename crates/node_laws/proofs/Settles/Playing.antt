@@ -12,7 +12,7 @@ use Rattle.node_laws.specs.Node.{NodeView}
 use Rattle.node_laws.specs.Stepping.{IsStep, TellsOn}
 use Rattle.node_laws.proofs.Settles.Telling.{tells_rounds, tells_stopped, tells_then}
 use Rattle.node_laws.specs.Kept.{IsKept}
-use Rattle.node_laws.specs.Rounds.{IsDone, Plays, StopsAt, Performed, Stopped, IsExchange, IsNext, events_of, Rounds, Played, Broken, IsAllowed, fewer}
+use Rattle.node_laws.specs.Rounds.{IsDone, Plays, StopsAt, Performed, Stopped, IsExchange, IsNextRound, events_of, Rounds, Played, Broken, IsAllowed, fewer}
 use Rattle.node_laws.specs.Bound.{rounds_left, most_rounds}
 use Rattle.node_laws.proofs.Settles.Wants.{wants}
 
@@ -160,10 +160,10 @@ none_yet old most before =
     all (Some n) = (omega arith, ap Some (omega arith))
 
 rounds_push : (old now new : NodeView) (rs : List Round) (outs more : List Out) (r : Round) → Rounds old rs outs now
-    → IsNext now r → Plays now (events_of now r) more new
+    → IsNextRound now r → Plays now (events_of now r) more new
     → Rounds old (rs ++ r ∷ []) (outs ++ more) new
 rounds_push old now new [] outs more r rounds next steps =
-    let P : NodeView → Type 0 = λ x. IsNext x r × Plays x (events_of x r) more new in
+    let P : NodeView → Type 0 = λ x. IsNextRound x r × Plays x (events_of x r) more new in
     let here = subst P rounds.1 (next, steps) in
     (new, more, [], ap (λ (xs : List Out). xs ++ more) rounds.0 ∙ sym (append-nil more), here.0, here.1, (refl, refl))
 rounds_push old now new (q ∷ rs) outs more r rounds next steps = (
@@ -188,7 +188,7 @@ fewer_left (Some m) n left h some =
     elim_less m n most apart = omega (arith, most, apart)
 
 pub one_more : (old now new : NodeView) (most left : Option ℕ) (before after grown : List Out) (r : Round)
-    → SoFar old most before left after now → (left ≡ Some 0 → ⊥) → IsNext now r
+    → SoFar old most before left after now → (left ≡ Some 0 → ⊥) → IsNextRound now r
     → Performed now (events_of now r) after grown new → rounds_left new < rounds_left now
     → SoFar old most before (fewer left) grown new
 one_more old now new most left before after grown r far some next h less =
@@ -228,7 +228,7 @@ one_allowed (Some m) left n h some = elim (cases_eq n m) [
 pub broken : (old now new : NodeView) (most left : Option ℕ) (before after grown : List Out) (r : Round)
     (refusal : Refusal)
     → SoFar old most before left after now → (left ≡ Some 0 → ⊥) → IsKept now
-    → IsNext now r → Stopped now (events_of now r) after grown refusal new → rounds_left old < most_rounds old.tc.log
+    → IsNextRound now r → Stopped now (events_of now r) after grown refusal new → rounds_left old < most_rounds old.tc.log
     → (b : Broken old before grown refusal new) × IsAllowed most (length b.rounds.rounds + 1)
     × (length b.rounds.rounds < most_rounds old.tc.log) × TellsOn old (b.rounds.outs ++ b.stopped.outs) new
 broken old now new most left before after grown r refusal far some kept next h bound = (

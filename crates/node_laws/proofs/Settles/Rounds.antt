@@ -11,7 +11,7 @@ use Rattle.tc_core.specs.Kept.{IsTc}
 use Rattle.tc_core.proofs.Finding.{IsOldest, oldest_none, oldest_found}
 use Rattle.node_laws.specs.declared.round.Round.TheVariants as round
 use Rattle.node_laws.specs.Node.{NodeView}
-use Rattle.node_laws.specs.Rounds.{AreIdle, IsDue, IsReader, IsRolling, AreRunning, IsNext, round_for}
+use Rattle.node_laws.specs.Rounds.{AreIdle, IsDue, IsReader, IsRolling, AreRunning, IsNextRound, round_for}
 use Rattle.node_laws.specs.Simulation.{AreUnrolled}
 
 -- nobody waits, or is being rolled back, where none is found
@@ -93,15 +93,15 @@ rolling_first w o k none h =
 
 -- the round of the one that waits: a force, or an exchange
 pub next_for : (w : NodeView) (o : OpenTxn) → AreRunning w → IsTc w.tc
-    → oldest (wants Unanswered) w.tc.open_txns ≡ Some o → IsNext w (round_for o.txn w.tc.stable o.waiting)
+    → oldest (wants Unanswered) w.tc.open_txns ≡ Some o → IsNextRound w (round_for o.txn w.tc.stable o.waiting)
 next_for w o serves k at = by o.waiting refl
   where
     forced : (n : ℕ) → o.waiting ≡ Some n → (b : Bool) → nat_lt w.tc.stable n ≡ b
-        → IsNext w (if b then round.Force else round.Exchange o.txn)
+        → IsNextRound w (if b then round.Force else round.Exchange o.txn)
     forced n waiting true e = inl (serves, inl (o.txn, n, due w.tc o n k at waiting, grind (arith, nat_tests, e)))
     forced n waiting false e = (serves, inl (n, due w.tc o n k at waiting, grind (arith, nat_tests, e)))
 
-    by : (m : Option ℕ) → o.waiting ≡ m → IsNext w (round_for o.txn w.tc.stable m)
+    by : (m : Option ℕ) → o.waiting ≡ m → IsNextRound w (round_for o.txn w.tc.stable m)
     by (Some n) waiting = forced n waiting (nat_lt w.tc.stable n) refl
     by None waiting = elim (some_waiting w.tc.open_txns o at) [
       | inl some ↦ let no : None ≡ Some some.0 = sym waiting ∙ some.1 in absurd (cc)

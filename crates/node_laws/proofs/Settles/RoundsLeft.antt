@@ -19,7 +19,7 @@ use Rattle.tc_core.proofs.KeepsLost.{fits_lacking}
 use Rattle.node_laws.proofs.Machine.Waited.{lost_if}
 use Rattle.restart.specs.declared.loser.Loser.{Loser}
 use Rattle.logical_log.specs.Undoing.{inverse_at, next_at}
-use Rattle.tc_core.specs.Changes.{waits_for, compensated_txn, compensated, ended, is_back, back_txn, answered_txn, answered, answered_lost, forced, told_txn, was_told, undoing_or_running, lost_compensated, lost_ended}
+use Rattle.tc_core.specs.Changes.{waits_for, compensated_txn, compensated, wholly_undone, is_back, back_txn, answered_txn, answered, answered_lost, forced, told_txn, was_told, undoing_or_running, lost_compensated, lost_ended}
 use Rattle.tc_core.specs.Replies.{awaiting, lacks, next_phase, on_awaited}
 use Rattle.tc_core.specs.Recovery.{redoing, CompensatesLatest, LosesLeast}
 use Rattle.tc_core.specs.Kept.{IsTc, AreOpen}
@@ -126,13 +126,13 @@ falls_comp w o b k running at rolling above = by (undo_found w o k at)
 
 -- an end: there is no transaction of this number any more
 falls_end : (w : TcView) (o : OpenTxn) (b : Rollback) → IsTc w → w.phase ≡ phase.Running
-    → find o.txn w.open_txns ≡ Some o → o.rolling ≡ Some b → tc_rounds (ended w o.txn) < tc_rounds w
+    → find o.txn w.open_txns ≡ Some o → o.rolling ≡ Some b → tc_rounds (wholly_undone w o.txn) < tc_rounds w
 falls_end w o b k running at rolling =
     let r : Record = is.End o.txn in
     let was = txn_rolling w.log w.stable o b rolling in
     let end = total_end (txn_rounds (r ∷ w.log) w.stable) (txn_rounds w.log w.stable) o w.open_txns k.open_txns.order at
     (λ p. txn_later r w.log w.stable w.stable p refl (omega arith)) in
-    let flag = worth (list_any is_busy (ended w o.txn).open_txns || nat_lt w.stable (length (r ∷ w.log))) in
+    let flag = worth (list_any is_busy (wholly_undone w o.txn).open_txns || nat_lt w.stable (length (r ∷ w.log))) in
     let lost = lost_later r w.log w.losers.below refl refl in
     rw (running, busy_rolling w.open_txns o.txn o at (ap is_some rolling)) (omega (arith, was, end, flag, lost))
 

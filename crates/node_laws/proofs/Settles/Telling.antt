@@ -10,7 +10,7 @@ use Rattle.node_laws.specs.declared.event.Out.TheVariants as out
 use Rattle.node_laws.specs.declared.round.Round.{Round}
 use Rattle.node_laws.specs.declared.round.Round.TheVariants as round
 use Rattle.node_laws.specs.Node.{NodeView}
-use Rattle.node_laws.specs.Simulation.{Stands, StepsIf, lines_of}
+use Rattle.node_laws.specs.Simulation.{NodeStandsFor, StepsIf, lines_of}
 use Rattle.node_laws.specs.Stepping.{IsStep, TellsOn, told_by, told_by_all}
 use Rattle.node_laws.specs.Rounds.{Plays, StopsAt, Rounds, events_of}
 
@@ -124,7 +124,7 @@ told_then (o ∷ os) ps = ap (λ (xs : List Line). told_by o ++ xs) (told_then o
 
 -- nothing was told, and one event more
 tells_none : (old new : NodeView) → new ≡ old → TellsOn old [] new
-tells_none old new same m stands = (m, refl, subst (λ w. Stands w m) (sym same) stands)
+tells_none old new same m stands = (m, refl, subst (λ w. NodeStandsFor w m) (sym same) stands)
 
 tells_next : (old mid new : NodeView) (e : Event) (o : Out) (os : List Out) → IsOfSettling e → IsStep old e o mid
     → TellsOn mid os new → TellsOn old (o ∷ os) new

@@ -41,7 +41,7 @@ use Rattle.node_laws.specs.declared.round.Round.{Round}
 use Rattle.node_laws.specs.declared.round.Round.TheVariants as round
 use Rattle.node_laws.specs.Node.{NodeView, AreUp, next_connect, LacksRoom, is_replied_to, ReconnectsTo, RecoversTo, SendsTo, sends_at}
 use Rattle.node_laws.specs.Kept.{IsKept, IsServed}
-use Rattle.node_laws.specs.Rounds.{IsDone, AreRunning, IsRecovering, IsDue, IsReader, IsRolling, IsNext, IsWant, StopsAt, events_of}
+use Rattle.node_laws.specs.Rounds.{IsDone, AreRunning, IsRecovering, IsDue, IsReader, IsRolling, IsNextRound, IsWant, StopsAt, events_of}
 use Rattle.node_laws.proofs.Invariant.Sends.{redoing_phase}
 use Rattle.node_laws.proofs.Settles.Exchanges.{HasReply, Stops, stops}
 use Rattle.node_laws.proofs.Invariant.Running.{stored_recorded}
@@ -367,7 +367,7 @@ lose_want w r new at (inr refused) =
     spent_want (log_is_spent w.tc.log) logs logs w.tc r new.tc
     (subst (λ x. Refuses x logs logs w.tc r new.tc) (spent_only w at) refused.0)
 
-pub wants : (old new : NodeView) (round : Round) (outs : List Out) (r : Refusal) → IsKept old → IsNext old round
+pub wants : (old new : NodeView) (round : Round) (outs : List Out) (r : Refusal) → IsKept old → IsNextRound old round
     → StopsAt old (events_of old round) outs r new → IsWant r
 wants old new round.RestartDc [] r k next (inl h) = inl h.0
 wants old new round.RestartDc [] r k next (inr h) =

@@ -2,7 +2,7 @@ use Rattle.std.proofs.Common.{◌≡◌, ◌+◌, ℕ, suc, ◌*◌, ◌≤◌, 
 use denote.Param.Weighed.{most}
 use Rattle.std.specs.Option.{option_copied}
 use Rattle.record_key.specs.Order.{Range}
-use Rattle.btree.specs.Nodes.{NodeView, AreChildren, height_in, under}
+use Rattle.btree.specs.Nodes.{TreeNodeView, AreChildren, height_in, under}
 use Rattle.btree.specs.declared.tree.node.Node.TheDeep.{size-Node}
 use Rattle.btree.specs.Below.{seen, IsNode}
 use Rattle.btree.specs.Scanned.{IsScannedOn}
@@ -10,7 +10,7 @@ use Rattle.btree.proofs.Scanned.{scanned_more, scanned_ended}
 use Rattle.btree.proofs.tree.+scan.Goals as goal
 
 -- children lie below their node
-lower : (height : ℕ) (ns : List NodeView) → AreChildren height ns → most size-Node ns ≤ 2 * suc height
+lower : (height : ℕ) (ns : List TreeNodeView) → AreChildren height ns → most size-Node ns ≤ 2 * suc height
 lower height [] are = omega arith
 lower height (n ∷ ns) are = omega (arith, are.0.level, lower height ns are.1)
 
@@ -20,7 +20,7 @@ node::Node::scan_on-scan_nodes-requires g t c κs within =
     let kept = subst (IsNode c.self.inside.low c.self.inside.count c.self.inside.summary) c.in-Inner.is
     c.self.invariant in
     let level : suc (height_in ns) ≡ c.args.self.now.height =
-    ap (λ (n : NodeView). n.height) (ap seen (sym c.in-Inner.is) ∙ c.self.view_is) in
+    ap (λ (n : TreeNodeView). n.height) (ap seen (sym c.in-Inner.is) ∙ c.self.view_is) in
     let less : most size-Node c.as_slice.result.now ≤ 2 * c.args.self.now.height =
     rw c.as_slice.ensures.value (omega (arith, lower (height_in ns) ns kept.under_it.children, level)) in
     let bound : 2 * size-Node c.args.self.now + 0 ≡ t = c.decreases in
@@ -57,7 +57,7 @@ scanning::scan_nodes-loop-node-preserved g t c =
 pub scanning::scan_nodes-returns-clause-found : goal.scanning::scan_nodes-returns-clause-found
 scanning::scan_nodes-returns-clause-found g t c =
     let s : Range = record { lo = c.args.low.now; hi = option_copied c.args.high } in
-    subst (λ (ns : List NodeView). IsScannedOn s (under ns) (g.S.RowSink.rows c.args.found.now)
+    subst (λ (ns : List TreeNodeView). IsScannedOn s (under ns) (g.S.RowSink.rows c.args.found.now)
     (g.S.RowSink.rows c.loop-node.found) false)
     (take_all c.loop-node.node-index c.args.nodes.now (omega (arith, c.loop-node-test.false)))
     c.loop-node.invariant

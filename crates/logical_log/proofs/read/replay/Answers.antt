@@ -8,7 +8,7 @@ use Rattle.history.specs.declared.record.Record.{Record}
 use Rattle.history.specs.Legal.{IsLegal}
 use Rattle.logical_log.specs.Opening.{BeginsAs}
 use Rattle.logical_log.specs.Replay.{IsIndex}
-use Rattle.logical_log.specs.Spelled.{IsNext}
+use Rattle.logical_log.specs.Spelled.{StandsNext}
 use Rattle.logical_log.proofs.Opening.{begins_nothing, begins_more, index_nothing, shorter, refused_next}
 use Rattle.logical_log.proofs.read.replay.Goals as goal
 
@@ -25,9 +25,9 @@ loop-next-init g c =
 
 -- what was read stands next
 is_next : (end : FrameEnd) (place : ℕ) (log : List Record) (left : List ℕ) (r : Record) (next : ℕ) → end ≡ ends.At next
-    → IfTaken (taken_at place end r) (IsNext log left) → IsNext log left r next
+    → IfTaken (taken_at place end r) (StandsNext log left) → StandsNext log left r next
 is_next end place log left r next is stands =
-    let P : FrameEnd → Type 0 = λ e. IfTaken (taken_at place e r) (IsNext log left) in
+    let P : FrameEnd → Type 0 = λ e. IfTaken (taken_at place e r) (StandsNext log left) in
     subst P is stands
 
 pub loop-next-smaller : goal.loop-next-smaller

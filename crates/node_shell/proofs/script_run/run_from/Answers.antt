@@ -1,6 +1,6 @@
 use Rattle.std.proofs.Common.{Bool, ◌++◌, ap, ◌∙◌, option_map, subst}
 use Rattle.node_shell.specs.Labels.{number_in}
-use Rattle.node_shell.specs.Script.{asked, commands_of, parts_left, lines_of}
+use Rattle.node_shell.specs.Script.{asked_by, commands_of, parts_left, lines_from}
 use Rattle.node_shell.specs.Text.{WritesRun, status_after}
 use Rattle.node_shell.proofs.Printing.{appends_then}
 use Rattle.node_shell.proofs.Running.{line_cut, line_fails, line_carries, run_is_done}
@@ -9,9 +9,9 @@ use Rattle.node_shell.proofs.script_run.run_from.Goals as goal
 pub returns-in_default-run_line : goal.returns-in_default-run_line
 returns-in_default-run_line g c =
     let inv = c.loop-left.invariant in
-    line_cut c.args.continues (commands_of (lines_of c.args.script.now)) c.args.shell.now.world
+    line_cut c.args.continues (commands_of (lines_from c.args.script.now)) c.args.shell.now.world
     (number_in c.args.shell.now.labels) inv.so_far c.loop-left.has_failed _ c.loop-left.shell.world
-    (number_in c.loop-left.shell.labels) _ (asked c.cut_at.result.0.now)
+    (number_in c.loop-left.shell.labels) _ (asked_by c.cut_at.result.0.now)
     (commands_of (parts_left 10 (option_map (λ s. s.now) c.cut_at.result.1))) _ _ _ _ _
     (ap (λ o. commands_of (parts_left 10 (option_map (λ s. s.now) o))) c.in-Some.is
     ∙ ap commands_of c.cut_at.ensures.parts)
@@ -20,9 +20,9 @@ returns-in_default-run_line g c =
 pub returns-then-ends : goal.returns-then-ends
 returns-then-ends g c =
     let inv = c.loop-left.invariant in
-    line_fails c.args.continues (commands_of (lines_of c.args.script.now)) c.args.shell.now.world
+    line_fails c.args.continues (commands_of (lines_from c.args.script.now)) c.args.shell.now.world
     (number_in c.args.shell.now.labels) inv.so_far c.loop-left.has_failed _ c.loop-left.shell.world
-    (number_in c.loop-left.shell.labels) c.in-Ok.failed (asked c.cut_at.result.0.now)
+    (number_in c.loop-left.shell.labels) c.in-Ok.failed (asked_by c.cut_at.result.0.now)
     (commands_of (parts_left 10 (option_map (λ s. s.now) c.cut_at.result.1))) _ _ _ _ _
     (ap (λ o. commands_of (parts_left 10 (option_map (λ s. s.now) o))) c.in-Some.is
     ∙ ap commands_of c.cut_at.ensures.parts)
@@ -34,9 +34,9 @@ loop-left-preserved g c =
     record {
       so_far = inv.so_far ++ c.in-Ok.ensures.said;
       appended = appends_then _ _ _ inv.so_far c.in-Ok.ensures.said inv.appended c.in-Ok.ensures.appended;
-      goes_on = line_carries c.args.continues (commands_of (lines_of c.args.script.now)) c.args.shell.now.world
+      goes_on = line_carries c.args.continues (commands_of (lines_from c.args.script.now)) c.args.shell.now.world
           (number_in c.args.shell.now.labels) inv.so_far c.loop-left.has_failed _ c.loop-left.shell.world
-          (number_in c.loop-left.shell.labels) c.in-Ok.failed (asked c.cut_at.result.0.now)
+          (number_in c.loop-left.shell.labels) c.in-Ok.failed (asked_by c.cut_at.result.0.now)
           (commands_of (parts_left 10 (option_map (λ s. s.now) c.cut_at.result.1)))
           _ _ _ _
           (ap (λ o. commands_of (parts_left 10 (option_map (λ s. s.now) o))) c.in-Some.is
@@ -47,11 +47,11 @@ loop-left-preserved g c =
 pub returns-then-has_failed : goal.returns-then-has_failed
 returns-then-has_failed g c =
     let inv = c.loop-left.invariant in
-    let P : Bool → Type 0 = λ failed. WritesRun c.args.continues (commands_of (lines_of c.args.script.now))
+    let P : Bool → Type 0 = λ failed. WritesRun c.args.continues (commands_of (lines_from c.args.script.now))
     c.args.shell.now.world (number_in c.args.shell.now.labels) (g.W.Write.contents c.args.writer.now)
     (g.W.Write.contents c.loop-left.writer) (status_after failed 0) in
     subst P c.if-has_failed.true
-    (run_is_done c.args.continues (commands_of (lines_of c.args.script.now)) c.args.shell.now.world
+    (run_is_done c.args.continues (commands_of (lines_from c.args.script.now)) c.args.shell.now.world
     (number_in c.args.shell.now.labels) inv.so_far c.loop-left.has_failed _ c.loop-left.shell.world
     (number_in c.loop-left.shell.labels) _ _
     (ap (λ o. commands_of (parts_left 10 (option_map (λ s. s.now) o))) c.in_default.is) inv.goes_on inv.appended)
@@ -59,11 +59,11 @@ returns-then-has_failed g c =
 pub returns-else-has_failed : goal.returns-else-has_failed
 returns-else-has_failed g c =
     let inv = c.loop-left.invariant in
-    let P : Bool → Type 0 = λ failed. WritesRun c.args.continues (commands_of (lines_of c.args.script.now))
+    let P : Bool → Type 0 = λ failed. WritesRun c.args.continues (commands_of (lines_from c.args.script.now))
     c.args.shell.now.world (number_in c.args.shell.now.labels) (g.W.Write.contents c.args.writer.now)
     (g.W.Write.contents c.loop-left.writer) (status_after failed 0) in
     subst P c.if-has_failed.false
-    (run_is_done c.args.continues (commands_of (lines_of c.args.script.now)) c.args.shell.now.world
+    (run_is_done c.args.continues (commands_of (lines_from c.args.script.now)) c.args.shell.now.world
     (number_in c.args.shell.now.labels) inv.so_far c.loop-left.has_failed _ c.loop-left.shell.world
     (number_in c.loop-left.shell.labels) _ _
     (ap (λ o. commands_of (parts_left 10 (option_map (λ s. s.now) o))) c.in_default.is) inv.goes_on inv.appended)

@@ -1,6 +1,6 @@
 use Rattle.std.proofs.Common.{rules, ◌≡◌, ℕ, List, Option, None, sym, ap, ◌∙◌, subst}
 use Rattle.node_shell.specs.Labels.{Bindings, number_in}
-use Rattle.node_shell.specs.Script.{commands_of, first_fault, lines_of}
+use Rattle.node_shell.specs.Script.{commands_of, first_fault, lines_from}
 use Rattle.node_shell.specs.Text.{WritesRun, IsAllOf}
 use Rattle.node_shell.proofs.Running.{unread, ran}
 use Rattle.node_shell.proofs.script_run.run_in.Goals as goal
@@ -21,5 +21,5 @@ returns g c =
     let ok : first_fault script ≡ None =
     ap first_fault (sym c.as_slice.ensures.value) ∙ sym c.first_fault.ensures ∙ c.in-None.is in
     ran c.args.continues c.args.shell.now.world labels given old new script c.run_from.result all ok
-    (subst (λ (s : List ℕ). WritesRun c.args.continues (commands_of (lines_of s)) c.args.shell.now.world labels old new
+    (subst (λ (s : List ℕ). WritesRun c.args.continues (commands_of (lines_from s)) c.args.shell.now.world labels old new
     c.run_from.result) c.as_slice-in-None.ensures.value c.run_from.ensures)

@@ -5,7 +5,7 @@ use Rattle.btree.specs.Lists.{leaves_in}
 use Rattle.codec.specs.declared.dc_record.DcRecord.{DcRecord}
 use Rattle.page.specs.Leaf.{LeafView}
 use Rattle.stable.specs.PagesState.{Pages}
-use Rattle.system_txn.specs.Arranging.{AreApart, IsArrangement}
+use Rattle.system_txn.specs.Arranging.{HaveOwnNumbers, IsArrangement}
 use Rattle.system_txn.proofs.Gathered.{IsGathered, gathers, gathered_apart, gathered_row, gathered_none}
 use Rattle.system_txn.proofs.Found.{pages_refused}
 use Rattle.std.proofs.lemmas.Result.{err_from_is_err_and}
@@ -31,7 +31,7 @@ arrange-requires g c =
     gathers pages log c.in-Ok.shelf.slots.items c.replay.new.shelf.slots.items c.len.result c.args.next_id
     c.requires.records c.requires.readable c.requires.numbered c.in-Ok.ensures.own count c.requires.next places
     c.in-Ok.ensures.held c.in_ok-replay.ensures.recovered in
-    subst (λ (bs : List (Box LeafView Global)). AreApart (leaves_in bs)) (sym c.in_ok-leaves.ensures.these)
+    subst (λ (bs : List (Box LeafView Global)). HaveOwnNumbers (leaves_in bs)) (sym c.in_ok-leaves.ensures.these)
     (gathered_apart pages log c.replay.new.shelf.slots.items gathered)
 
 pub returns-clause-recovered : goal.returns-clause-recovered

@@ -3,7 +3,7 @@ use Rattle.std.proofs.lemmas.List.{length-append}
 use Rattle.std.specs.List.{AllByRecursion}
 use Rattle.marks.specs.Seen.{Seen, reader}
 use Rattle.worker_pool.specs.declared.opened.Chair.{Chair}
-use Rattle.worker_pool.specs.Opened.{IsReader}
+use Rattle.worker_pool.specs.Opened.{ReadsMarks}
 use Rattle.pool_journal.proofs.Lists.{all_snoc}
 use Rattle.worker_pool.proofs.Opening.{all_first}
 use Rattle.worker_pool.proofs.opened.chairs.Goals as goal
@@ -17,8 +17,8 @@ loop-seat-preserved c =
     c.in-Some.ensures.steps.0 c.loop-seat.invariant.1 in
     let before = ap (λ (xs : List Seen). length xs) c.in-Some.ensures.steps.0 in
     let added = ap (λ (xs : List Chair). length xs) c.in_ok-push.ensures.items in (
-      subst (AllByRecursion (IsReader m)) (sym c.in_ok-push.ensures.items)
-          (all_snoc (IsReader m) c.loop-seat.chairs.items chair c.loop-seat.invariant.0 ahead.0),
+      subst (AllByRecursion (ReadsMarks m)) (sym c.in_ok-push.ensures.items)
+          (all_snoc (ReadsMarks m) c.loop-seat.chairs.items chair c.loop-seat.invariant.0 ahead.0),
       ahead.1,
       omega (arith, added, before, c.loop-seat.invariant.2, length-append c.loop-seat.chairs.items (chair ∷ [])),
     )

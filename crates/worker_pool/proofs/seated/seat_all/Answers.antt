@@ -6,7 +6,7 @@ use Rattle.pool_journal.specs.declared.place.Place.{Place}
 use Rattle.worker_pool.specs.declared.seated.Sitter.{Sitter}
 use Rattle.worker_pool.specs.Closing.{IsSeated, numbers_in}
 use Rattle.pool_journal.specs.Kept.{PlaceKept, PlacesKept}
-use Rattle.worker_pool.specs.Opened.{IsReader, ties_of}
+use Rattle.worker_pool.specs.Opened.{ReadsMarks, ties_of}
 use Rattle.pool_journal.proofs.Lists.{all_snoc}
 use Rattle.worker_pool.proofs.Opening.{TiedFrom, below_more, places_snoc, tied_first, tied_rest}
 use Rattle.worker_pool.proofs.seated.seat_all.Goals as goal
@@ -35,7 +35,7 @@ loop-chair-preserved g c =
     let k = c.loop-chair.invariant in
     let n = c.loop-chair.number in
     let tied = subst (λ (xs : List Chair). TiedFrom J.names n (ties_of xs)) c.in-Some.ensures.steps.0 k.5 in
-    let read = subst (AllByRecursion (IsReader J.marks)) c.in-Some.ensures.steps.0 k.4 in
+    let read = subst (AllByRecursion (ReadsMarks J.marks)) c.in-Some.ensures.steps.0 k.4 in
     let left = ap (λ (xs : List Chair). length xs) c.in-Some.ensures.steps.0 in
     let p = c.new.result in
     let placed : PlaceKept J.entries J.names [] (length c.loop-chair.places.items) p =

@@ -2,7 +2,7 @@ use Rattle.std.proofs.Common.{◌≡◌, ◌+◌, [], length}
 use Rattle.std.specs.List.{AllByRecursion}
 use Rattle.worker_pool.specs.Closing.{IsSeated, below, numbers_in}
 use Rattle.pool_journal.specs.Kept.{PlacesKept}
-use Rattle.worker_pool.specs.Opened.{IsReader, ties_of}
+use Rattle.worker_pool.specs.Opened.{ReadsMarks, ties_of}
 use Rattle.worker_pool.proofs.Opening.{TiedFrom}
 use Rattle.worker_pool.proofs.seated.seat_all.Given as goal
 
@@ -13,5 +13,5 @@ invariant-loop-chair g l =
     let rest = l.chair-iterator.rest.items in
     PlacesKept J.entries J.names [] l.places.items × (length l.places.items ≡ l.number)
     × AllByRecursion (IsSeated J.marks) l.sitters.items × (numbers_in l.sitters.items ≡ below l.number)
-    × AllByRecursion (IsReader J.marks) rest × TiedFrom J.names l.number (ties_of rest)
+    × AllByRecursion (ReadsMarks J.marks) rest × TiedFrom J.names l.number (ties_of rest)
     × (l.number + length rest ≡ J.sessions)

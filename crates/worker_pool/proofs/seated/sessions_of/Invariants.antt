@@ -1,6 +1,6 @@
 use Rattle.std.proofs.Common.{◌≡◌, ◌++◌}
 use Rattle.std.specs.List.{AllByRecursion}
-use Rattle.worker_pool.specs.Closing.{IsFresh, IsSeated, numbers_in, numbers_of}
+use Rattle.worker_pool.specs.Closing.{IsFresh, IsSeated, numbers_in, numbers_named}
 use Rattle.worker_pool.proofs.seated.sessions_of.Given as goal
 
 -- those so far have made no call
@@ -9,4 +9,4 @@ invariant-loop-sitter g l =
     let J = g.J.Naming in
     let rest = l.sitter-iterator.rest.items in
     AllByRecursion (IsFresh J.marks) l.sessions.items × AllByRecursion (IsSeated J.marks) rest
-    × (numbers_of l.sessions.items ++ numbers_in rest ≡ numbers_in l.fn.sitters.items)
+    × (numbers_named l.sessions.items ++ numbers_in rest ≡ numbers_in l.fn.sitters.items)

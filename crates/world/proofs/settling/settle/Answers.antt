@@ -5,7 +5,7 @@ use Rattle.std.specs.Result.{IsErrAnd}
 use Rattle.record_key.specs.declared.refusal.Refusal.{Refusal}
 use Rattle.node_laws.specs.declared.event.Out.{Out}
 use Rattle.node_laws.specs.Node.{NodeView}
-use Rattle.node_laws.specs.Rounds.{IsNext, Settles}
+use Rattle.node_laws.specs.Rounds.{IsNextRound, Settles}
 use Rattle.node_laws.proofs.Settles.RoundsLeft.{rounds_bound}
 use Rattle.node_laws.proofs.Settles.Falls.{falls, some_left}
 use Rattle.node_laws.proofs.Settles.Playing.{none_yet, one_more, all_played, allowed, broken}
@@ -30,7 +30,7 @@ unspent left h e = let P : Option ℕ → Type 0 = λ x. false ≡ option_eq (λ
 pub returns-then-eq : goal.returns-then-eq
 returns-then-eq g c =
     let far = c.loop-round.invariant.far in
-    let next : IsNext c.loop-round.world c.in-Some.round = c.in-Some.ensures in (
+    let next : IsNextRound c.loop-round.world c.in-Some.round = c.in-Some.ensures in (
       far.played,
       all_played c.args.most c.loop-round.left _ far.left_is (spent c.loop-round.left c.if-eq.ensures),
       omega (

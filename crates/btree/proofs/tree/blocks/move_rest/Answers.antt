@@ -1,7 +1,7 @@
 use Rattle.std.proofs.Common.{◌≡◌, ◌<◌, ◌++◌, [], ◌∷◌, List, drop, length, sym, ap, ◌∙◌, arith, rules, append_assoc, length-append}
 use Rattle.std.specs.List.{remove}
 use Rattle.std.proofs.lemmas.List.Edits.{length-remove}
-use Rattle.btree.specs.Nodes.{NodeView}
+use Rattle.btree.specs.Nodes.{TreeNodeView}
 use Rattle.btree.proofs.Taken.{take_removed, drop_removed}
 use Rattle.btree.proofs.tree.blocks.move_rest.Goals as goal
 
@@ -16,9 +16,9 @@ loop-children-preserved c =
     let grown = length-append ys (x ∷ []) in
     let moved : drop i xs ≡ x ∷ drop i (remove xs i) =
     drop_removed xs i x within
-    ∙ ap (λ (y : NodeView). y ∷ drop i (remove xs i)) (sym c.remove-node.ensures.value) in
+    ∙ ap (λ (y : TreeNodeView). y ∷ drop i (remove xs i)) (sym c.remove-node.ensures.value) in
     rw (c.push_reserved.ensures.items, c.remove-node.ensures.items) (
-      append_assoc ys (x ∷ []) (drop i (remove xs i)) ∙ ap (λ (zs : List NodeView). ys ++ zs) (sym moved)
+      append_assoc ys (x ∷ []) (drop i (remove xs i)) ∙ ap (λ (zs : List TreeNodeView). ys ++ zs) (sym moved)
           ∙ c.loop-children.invariant.0,
       take_removed xs i ∙ c.loop-children.invariant.1,
       omega (arith, within, left),

@@ -1,7 +1,7 @@
 use Rattle.std.proofs.Common.{◌≡◌, true, ◌-◌, ◌<◌, length, sym, ap, ◌∙◌, arith}
 use Rattle.std.proofs.lemmas.List.{get_or_default}
 use Rattle.btree.specs.Choosing.{extent_first, extent_last, summary_of, is_quiet}
-use Rattle.btree.specs.Nodes.{NodeView, nothing, under}
+use Rattle.btree.specs.Nodes.{TreeNodeView, nothing, under}
 use Rattle.btree.proofs.Quiet.{quiet_none, first_below, last_below, still_quiet}
 use Rattle.btree.proofs.tree.children.renew_after.Goals as goal
 
@@ -17,12 +17,12 @@ returns-then-is_quiet_at-clause-renewed c =
     let some : 0 < length ns = omega (arith, c.requires.there) in
     let first : c.summary-then-is_quiet_at.result.first ≡ extent_first (under ns) =
     ap (λ s. s.first) c.summary-then-is_quiet_at.ensures
-    ∙ ap (λ (n : NodeView). extent_first n.leaves)
+    ∙ ap (λ (n : TreeNodeView). extent_first n.leaves)
     (c.index-nodes-0.is ∙ get_or_default ns 0 c.index-nodes-0.result nothing some)
     ∙ sym (first_below _ ns some c.requires.whole) in
     let last : c.summary.result.last ≡ extent_last (under ns) =
     ap (λ s. s.last) c.summary.ensures
-    ∙ ap (λ (n : NodeView). extent_last n.leaves)
+    ∙ ap (λ (n : TreeNodeView). extent_last n.leaves)
     (c.index-nodes-nodes.is
     ∙ get_or_default ns (length ns - 1) c.index-nodes-nodes.result nothing (omega (arith, some)))
     ∙ sym (last_below _ ns some c.requires.whole) in

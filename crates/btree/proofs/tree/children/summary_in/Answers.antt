@@ -1,7 +1,7 @@
 use Rattle.std.proofs.Common.{◌<◌, ◌∙◌, length, ap, sym, arith, add-one, take_all}
 use Rattle.std.proofs.lemmas.List.{get_or_default}
 use Rattle.btree.specs.Choosing.{both_of, summary_of}
-use Rattle.btree.specs.Nodes.{NodeView, nothing, under}
+use Rattle.btree.specs.Nodes.{TreeNodeView, nothing, under}
 use Rattle.btree.proofs.FirstBelow.{summary_more}
 use Rattle.btree.proofs.tree.children.summary_in.Goals as goal
 
@@ -10,7 +10,7 @@ loop-i-preserved c =
     let ns = c.args.nodes.now in
     let i = c.loop-i.i in
     let within : i < length ns = c.loop-i-test.true in
-    let item = ap (λ (n : NodeView). summary_of n.leaves)
+    let item = ap (λ (n : TreeNodeView). summary_of n.leaves)
     (c.index-nodes-i.is ∙ get_or_default ns i c.index-nodes-i.result nothing within) in (
       omega arith,
       omega (arith, within),

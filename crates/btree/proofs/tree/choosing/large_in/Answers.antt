@@ -1,7 +1,7 @@
 use Rattle.std.proofs.Common.{◌≡◌, get_or, length, ap, sym, ◌∙◌, arith, add-one}
 use Rattle.std.specs.Option.{is_some}
 use Rattle.btree.specs.Choosing.{first_large}
-use Rattle.btree.specs.Nodes.{NodeView, nothing}
+use Rattle.btree.specs.Nodes.{TreeNodeView, nothing}
 use Rattle.btree.proofs.FirstBelow.{stands, large_here_node, large_later_node}
 use Rattle.btree.proofs.Under.{count_more, count_parts}
 use Rattle.btree.proofs.tree.choosing.large_in.Goals as goal
@@ -10,13 +10,13 @@ use Rattle.btree.proofs.tree.choosing.large_in.Goals.{After-count-before, After-
 taken : (c : After-count-before)
     → c.count-before.result ≡ length (get_or c.args.nodes.now c.loop-before.i nothing).leaves
 taken c = c.count-before.ensures
-    ∙ ap (λ (n : NodeView). length n.leaves) (stands _ _ _ c.loop-before.invariant.0 c.index-nodes-i-in-loop-before.is)
+    ∙ ap (λ (n : TreeNodeView). length n.leaves) (stands _ _ _ c.loop-before.invariant.0 c.index-nodes-i-in-loop-before.is)
 
 -- what is asked of the node at the place
 asked : (c : After-has_large)
     → is_some (first_large c.args.known (get_or c.args.nodes.now c.loop-before.i nothing).leaves) ≡ c.has_large.result
 asked c =
-    ap (λ (n : NodeView). is_some (first_large c.args.known n.leaves))
+    ap (λ (n : TreeNodeView). is_some (first_large c.args.known n.leaves))
     (sym (stands _ _ _ c.loop-before.invariant.0 c.index-nodes-i.is))
     ∙ sym c.has_large.ensures
 

@@ -1,7 +1,7 @@
 use Rattle.std.specs.Option.{is_some}
 use Rattle.std.proofs.Common.{List, ◌≡◌, ◌+◌, ◌<◌, suc, get_or, length, sym, ap, ◌∙◌, arith, add-one, ℕ}
 use Rattle.btree.specs.Choosing.{first_pair, is_reached, pair_top, extent_first, extent_last}
-use Rattle.btree.specs.Nodes.{NodeView, nothing}
+use Rattle.btree.specs.Nodes.{TreeNodeView, nothing}
 use Rattle.btree.proofs.FirstBelow.{stands, pair_not_last, pair_next, pair_here_node, pair_met_node}
 use Rattle.btree.proofs.Under.{count_more, count_parts}
 use Rattle.btree.proofs.tree.choosing.pair_in.Goals as goal
@@ -10,18 +10,18 @@ use Rattle.btree.proofs.tree.choosing.pair_in.Goals.{After-count-before, After-h
 taken : (c : After-count-before)
     → c.count-before.result ≡ length (get_or c.args.nodes.now c.loop-before.i nothing).leaves
 taken c = c.count-before.ensures
-    ∙ ap (λ (n : NodeView). length n.leaves)
+    ∙ ap (λ (n : TreeNodeView). length n.leaves)
     (stands _ _ _ c.loop-before.invariant.0 c.index-nodes-i-in-loop-before-3.is)
 
 -- what is asked of the node at the place
 asked : (c : After-has_pair)
     → is_some (first_pair c.args.known (get_or c.args.nodes.now c.loop-before.i nothing).leaves) ≡ c.has_pair.result
 asked c =
-    ap (λ (n : NodeView). is_some (first_pair c.args.known n.leaves))
+    ap (λ (n : TreeNodeView). is_some (first_pair c.args.known n.leaves))
     (sym (stands _ _ _ c.loop-before.invariant.0 c.index-nodes-i.is))
     ∙ sym c.has_pair.ensures
 
-met : (known : ℕ) (ns : List NodeView) (i : ℕ) (x y : NodeView) → i < length ns → i + 1 < length ns
+met : (known : ℕ) (ns : List TreeNodeView) (i : ℕ) (x y : TreeNodeView) → i < length ns → i + 1 < length ns
     → x ≡ get_or ns i x → y ≡ get_or ns (i + 1) y
     → is_reached known
     (pair_top (extent_last (get_or ns i nothing).leaves) (extent_first (get_or ns (suc i) nothing).leaves))

@@ -1,5 +1,5 @@
 use Rattle.std.proofs.Common.{◌++◌, length, ap, ◌∙◌, sym, arith, append-nil}
-use Rattle.btree.specs.Nodes.{NodeView, under}
+use Rattle.btree.specs.Nodes.{TreeNodeView, under}
 use Rattle.btree.proofs.Under.{count_inserted, under_halves}
 use Rattle.btree.proofs.tree.growing.add.Goals as goal
 
@@ -10,7 +10,7 @@ divide-requires-clause-counted c =
 
 pub returns-clause-leaves : goal.returns-clause-leaves
 returns-clause-leaves c =
-    let rest = append-nil c.divide.result.leaves ∙ ap (λ (n : NodeView). n.leaves) c.divide.ensures.right in
+    let rest = append-nil c.divide.result.leaves ∙ ap (λ (n : TreeNodeView). n.leaves) c.divide.ensures.right in
     (λ i. under (c.divide.ensures.left i) ++ rest i)
     ∙ sym (under_halves c.put_in.new.children.items c.stays_of.result)
     ∙ ap under c.put_in.ensures.items

@@ -1,11 +1,11 @@
 use Rattle.std.proofs.Common.{suc, [], ◌++◌, length, ap, arith, length-append}
 use Rattle.std.proofs.lemmas.List.Edits.{length-insert}
-use Rattle.btree.specs.Nodes.{NodeView}
+use Rattle.btree.specs.Nodes.{TreeNodeView}
 use Rattle.btree.proofs.tree.growing.insert_in.Goals as goal
 
 pub over_two-requires-clause-counted : goal.over_two-requires-clause-counted
 over_two-requires-clause-counted c =
-    let left = ap (λ (n : NodeView). length n.leaves) c.replace-left.ensures.value in
+    let left = ap (λ (n : TreeNodeView). length n.leaves) c.replace-left.ensures.value in
     let all = ap length c.in-Some.ensures.leaves in
     let both = length-append c.insert.new.self.leaves (c.in-Some.right.leaves ++ []) in
     let right = length-append c.in-Some.right.leaves [] in

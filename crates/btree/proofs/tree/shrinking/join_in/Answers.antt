@@ -1,5 +1,5 @@
 use Rattle.std.proofs.Common.{◌++◌, length, ap, ◌∙◌, sym, arith, append-nil, length-append}
-use Rattle.btree.specs.Nodes.{NodeView, under}
+use Rattle.btree.specs.Nodes.{TreeNodeView, under}
 use Rattle.btree.proofs.Under.{under_append, under_halves}
 use Rattle.btree.proofs.tree.shrinking.join_in.Goals as goal
 
@@ -16,7 +16,7 @@ divide-requires-clause-counted c =
 pub returns-clause-leaves : goal.returns-clause-leaves
 returns-clause-leaves c =
     let zs = c.append.new.self.items in
-    let rest = append-nil c.divide.result.leaves ∙ ap (λ (n : NodeView). n.leaves) c.divide.ensures.right in
+    let rest = append-nil c.divide.result.leaves ∙ ap (λ (n : TreeNodeView). n.leaves) c.divide.ensures.right in
     (λ i. under (c.divide.ensures.left i) ++ rest i)
     ∙ sym (under_halves zs c.args.stays)
     ∙ ap under c.in-Ok.ensures.items

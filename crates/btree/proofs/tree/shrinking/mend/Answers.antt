@@ -1,5 +1,5 @@
 use Rattle.std.proofs.Common.{◌≡◌, ◌-◌, ◌<◌, ℕ, suc, length, ap, ◌∙◌, arith}
-use Rattle.btree.specs.Nodes.{NodeView, under}
+use Rattle.btree.specs.Nodes.{TreeNodeView, under}
 use Rattle.std.specs.List.{insert}
 use Rattle.btree.proofs.Removed.{count_removed, joined_after, joined_before}
 use Rattle.btree.proofs.tree.shrinking.mend.Goals as goal
@@ -7,7 +7,7 @@ use Rattle.btree.proofs.tree.shrinking.mend.Goals as goal
 pub put_joined-requires-clause-counted : goal.put_joined-requires-clause-counted
 put_joined-requires-clause-counted c =
     let within : c.args.i < length c.args.children.now.items = omega (arith, c.if-i-len.true, c.len.ensures) in
-    let right = ap (λ (n : NodeView). length n.leaves) c.remove-right.ensures.value in
+    let right = ap (λ (n : TreeNodeView). length n.leaves) c.remove-right.ensures.value in
     omega (
       arith,
       right,
@@ -18,7 +18,7 @@ put_joined-requires-clause-counted c =
 pub put_joined-requires-else-i-len-clause-counted : goal.put_joined-requires-else-i-len-clause-counted
 put_joined-requires-else-i-len-clause-counted c =
     let within : c.args.i - 1 < length c.args.children.now.items = omega (arith, c.requires.within, c.requires.some) in
-    let left = ap (λ (n : NodeView). length n.leaves) c.remove-left.ensures.value in
+    let left = ap (λ (n : TreeNodeView). length n.leaves) c.remove-left.ensures.value in
     omega (
       arith,
       left,

@@ -6,7 +6,7 @@ use Rattle.codec.specs.Records.{record_bytes}
 use Rattle.history.specs.declared.record.Record.{Record}
 use Rattle.logical_log.specs.Index.{noted}
 use Rattle.logical_log.specs.Kept.{AreIndexed}
-use Rattle.logical_log.specs.Spelled.{spelled, records_of, IsNext}
+use Rattle.logical_log.specs.Spelled.{spelled, records_of, StandsNext}
 use Rattle.logical_log.proofs.Index.{names_within, length-index}
 use Rattle.logical_log.proofs.Framed.{indexed_longer, indexed_so, indexed_count, same_log}
 use Rattle.logical_log.proofs.frames.Frames.accept.Goals as goal
@@ -57,7 +57,7 @@ now g c =
     let left : List ℕ = drop m.end old in
     let r : Record = c.args.accepted.now in
     let f : List ℕ = frame (record_bytes r) in
-    let stands : IsNext log left r c.args.next = rw (← c.self.view_is) at c.requires.stands in
+    let stands : StandsNext log left r c.args.next = rw (← c.self.view_is) at c.requires.stands in
     let room : length log < 281474976710655 = rw (← c.self.view_is) at c.requires.room in
     let bytes : old ≡ spelled log ++ (f ++ drop (length f) left) = c.self.invariant.frames.bytes_are
     ∙ ap (λ (l : List ℕ). spelled log ++ l) stands.parts in

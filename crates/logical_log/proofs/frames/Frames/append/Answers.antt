@@ -8,7 +8,7 @@ use Rattle.codec.specs.Records.{record_bytes}
 use Rattle.stable.specs.Usage.{called}
 use Rattle.history.specs.declared.record.Record.{Record}
 use Rattle.logical_log.specs.Index.{noted}
-use Rattle.logical_log.specs.Kept.{AreIndexed, FramesView, with_record}
+use Rattle.logical_log.specs.Kept.{AreIndexed, FramesView, with_appended}
 use Rattle.logical_log.specs.Spelled.{spelled, records_of}
 use Rattle.logical_log.proofs.Index.{names_within, length-index}
 use Rattle.logical_log.proofs.Framed.{indexed_longer, indexed_so, indexed_count, same_log, same_left}
@@ -109,7 +109,7 @@ returns-clause-appended g c =
         usage = g.D.LogDevice.usage c.write.new.device;
       };
     }
-    ≡ with_record v (record_of c.args.appended.now) in
+    ≡ with_appended v (record_of c.args.appended.now) in
     subst Seen c.self.view_is (λ i. record {
       records = records i;
       left = left i;

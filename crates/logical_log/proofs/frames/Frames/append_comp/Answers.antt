@@ -12,7 +12,7 @@ use Rattle.inverse.specs.Inverse.{inverse_of}
 use Rattle.record_key.specs.declared.op.Op.{Op}
 use Rattle.record_key.specs.declared.op.Answer.{Answer}
 use Rattle.logical_log.specs.Index.{noted, first_place}
-use Rattle.logical_log.specs.Kept.{AreIndexed, FramesView, with_record}
+use Rattle.logical_log.specs.Kept.{AreIndexed, FramesView, with_appended}
 use Rattle.logical_log.specs.Spelled.{spelled, records_of}
 use Rattle.logical_log.specs.Undoing.{comp_at, inverse_at}
 use Rattle.logical_log.proofs.Framed.{indexed_longer, indexed_so, indexed_count, same_log, same_left}
@@ -153,7 +153,7 @@ returns-clause-appended g c =
         usage = g.D.LogDevice.usage c.write_comp.new.device;
       };
     }
-    ≡ with_record v (comp_at v.records c.args.txn c.args.undoes) in
+    ≡ with_appended v (comp_at v.records c.args.txn c.args.undoes) in
     subst Seen c.self.view_is (λ i. record {
       records = records i;
       left = left i;

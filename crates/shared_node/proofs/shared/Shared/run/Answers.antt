@@ -1,7 +1,7 @@
 use Rattle.std.proofs.Common.{◌≡◌, Some, subst}
 use Rattle.pool_journal.specs.Sessions.{Part}
 use Rattle.session_answers.proofs.Ending.{ends_by}
-use Rattle.session_answers.specs.Answers.{Calls}
+use Rattle.session_answers.specs.Answers.{CallsUntold}
 use Rattle.session_answers.specs.Asking.{event_of}
 use Rattle.shared_node.specs.declared.entrance.Called.{Called}
 use Rattle.shared_node.proofs.shared.Shared.run.Goals as goal
@@ -16,9 +16,9 @@ returns-clause-ends g c =
     let event = event_of made.txn c.args.ask in
     let same = c.in_ok-free.ensures.free.0 in
     let k = subst (λ (m : Called). (c.free.new.caller.part.live ≡ Some m.txn)
-    × Calls row (event_of m.txn c.args.ask) c.free.new.caller.part m.token mid) c.in-Some.field-0-is
+    × CallsUntold row (event_of m.txn c.args.ask) c.free.new.caller.part m.token mid) c.in-Some.field-0-is
     c.in-Some.ensures.calls in
-    let calls = subst (λ (p : Part). Calls row event p made.token mid) same k.1 in (
+    let calls = subst (λ (p : Part). CallsUntold row event p made.token mid) same k.1 in (
       made.txn,
       subst (λ (p : Part). p.live ≡ Some made.txn) same k.0,
       ends_by row event old mid new made.token c.finish-ended.result calls c.finish-ended.ensures.ends,

@@ -1,8 +1,8 @@
 use Rattle.std.proofs.Common.{◌≡◌, ◌∷◌, subst, Some, inr, ap, Err}
 use Rattle.history.specs.declared.record.Record.TheVariants.{Op}
 use Rattle.history.specs.Spans.{Span, at_key, changed_span}
-use Rattle.range_locks.specs.Meant.{mode_of}
-use Rattle.range_locks.specs.Locks.{spans_of, set_spans, IsFree}
+use Rattle.range_locks.specs.Meant.{mode_meant}
+use Rattle.range_locks.specs.Locks.{spans_of, set_spans, IsGrantable}
 use Rattle.tc_core.specs.declared.change.Change.TheVariants.{Stepped}
 use Rattle.logical_log.specs.LogView.{is_spent}
 use Rattle.tc_core.specs.Seen.{seen}
@@ -18,8 +18,8 @@ append_op-requires g c =
     let w = seen c.args.self.now in
     let o = c.in_ok-prev.field-0.now in
     let found = c.in_ok-prev.ensures.found in
-    let P : Span → Type 0 = λ s. IsFree w.locks c.args.txn s in
-    let free : IsFree w.locks o.txn (changed_span c.args.op.now) =
+    let P : Span → Type 0 = λ s. IsGrantable w.locks c.args.txn s in
+    let free : IsGrantable w.locks o.txn (changed_span c.args.op.now) =
     rw found.at.number (subst P (taken_span c.mode_for.result c.key.result.now c.args.op.now c.mode_for.ensures
     c.key.ensures) c.in_ok-take_key.ensures.free) in
     let fits = fits_op w o c.args.op.now c.requires found.at.is found.waiting free in
@@ -34,10 +34,10 @@ returns-in-Ok-clause-kept g c =
     let op = c.args.op.now in
     let found = c.in_ok-prev.ensures.found in
     let appended = c.in-Ok.ensures.appended in
-    let P : Span → Type 0 = λ s. IsFree w.locks t s in
+    let P : Span → Type 0 = λ s. IsGrantable w.locks t s in
     let Q : Span → Type 0 = λ s. c.take_key.new.locks ≡ set_spans t (s ∷ spans_of w.locks t) w.locks in
     let key = taken_span c.mode_for.result c.key.result.now op c.mode_for.ensures c.key.ensures in
-    let free : IsFree w.locks o.txn (changed_span op) =
+    let free : IsGrantable w.locks o.txn (changed_span op) =
     rw found.at.number (subst P key c.in_ok-take_key.ensures.free) in
     let taken : c.take_key.new.locks ≡ set_spans t (changed_span op ∷ spans_of w.locks t) w.locks =
     subst Q key c.in_ok-take_key.ensures.taken in
@@ -53,12 +53,12 @@ returns-in-Ok-clause-kept g c =
 
 pub untake-requires : goal.untake-requires
 untake-requires g c =
-    holds_some c.args.self.now.locks c.take_key.new.locks c.args.txn (at_key (mode_of c.mode_for.result) c.key.result.now)
+    holds_some c.args.self.now.locks c.take_key.new.locks c.args.txn (at_key (mode_meant c.mode_for.result) c.key.result.now)
     c.requires.locks.table c.in_ok-take_key.ensures.taken
 
 left : (g : _) (c : goal.After-untake g) → c.untake.new.self ≡ c.args.self.now.locks
 left g c =
-    untaken c.args.self.now.locks c.take_key.new.locks c.args.txn (at_key (mode_of c.mode_for.result) c.key.result.now)
+    untaken c.args.self.now.locks c.take_key.new.locks c.args.txn (at_key (mode_meant c.mode_for.result) c.key.result.now)
     c.requires.locks.table c.in_ok-take_key.ensures.taken
     c.untake.new.self c.untake.ensures
 
@@ -70,7 +70,7 @@ returns-in-Err-clause-kept g c =
 pub returns-in-Err-clause-gives : goal.returns-in-Err-clause-gives
 returns-in-Err-clause-gives g c =
     let w = seen c.args.self.now in
-    let P : Span → Type 0 = λ s. IsFree w.locks c.args.txn s in
+    let P : Span → Type 0 = λ s. IsGrantable w.locks c.args.txn s in
     let free = subst P (taken_span c.mode_for.result c.key.result.now c.args.op.now c.mode_for.ensures
     c.key.ensures) c.in_ok-take_key.ensures.free in
     rw (c.in_ok-prev.ensures.found.allowed, left g c)

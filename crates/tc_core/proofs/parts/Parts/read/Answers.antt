@@ -2,7 +2,7 @@ use Rattle.std.proofs.Common.{◌+◌, ◌<◌, sym, arith, ◌∙◌}
 use Rattle.std.proofs.lemmas.Bool.Decides.{nat_tests}
 use Rattle.range_locks.specs.Meant.{range_of}
 use Rattle.record_key.specs.Order.{HasKeys}
-use Rattle.range_locks.specs.Locks.{IsFree}
+use Rattle.range_locks.specs.Locks.{IsGrantable}
 use Rattle.tc_core.specs.declared.change.Change.TheVariants.{Reads}
 use Rattle.tc_core.specs.Changes.{shared}
 use Rattle.tc_core.specs.Seen.{seen}
@@ -16,7 +16,7 @@ returns-clause-kept g c =
     let o = c.in_ok-idle.field-0.now in
     let found = c.in_ok-idle.ensures.found in
     let range : HasKeys (range_of c.args.span) = sym c.is_range.ensures ∙ c.if-not-is_range.false in
-    let free : IsFree w.locks o.txn (shared c.args.span) = rw found.at.number c.in_ok-take.ensures.free in
+    let free : IsGrantable w.locks o.txn (shared c.args.span) = rw found.at.number c.in_ok-take.ensures.free in
     let unspent : w.reads < 281474976710655 = grind (arith, nat_tests, c.in_ok-take.ensures.unspent) in
     rw (
       happened w c.args.txn o (Reads (record { number = w.reads + 1; span = c.args.span })) c.change.new.self found.at

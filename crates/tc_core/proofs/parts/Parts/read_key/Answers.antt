@@ -1,7 +1,7 @@
 use Rattle.std.proofs.Common.{◌+◌, ◌<◌, arith}
 use Rattle.std.proofs.lemmas.Bool.Decides.{nat_tests}
 use Rattle.range_locks.specs.declared.span.Span.TheVariants.{Key}
-use Rattle.range_locks.specs.Locks.{IsFree}
+use Rattle.range_locks.specs.Locks.{IsGrantable}
 use Rattle.range_locks.proofs.KeyEnds.{key_range}
 use Rattle.tc_core.specs.declared.change.Change.TheVariants.{Reads}
 use Rattle.tc_core.specs.Changes.{shared}
@@ -15,7 +15,7 @@ returns-clause-kept g c =
     let w = seen c.args.self.now in
     let o = c.in_ok-idle.field-0.now in
     let found = c.in_ok-idle.ensures.found in
-    let free : IsFree w.locks o.txn (shared (Key c.args.key.now)) =
+    let free : IsGrantable w.locks o.txn (shared (Key c.args.key.now)) =
     rw found.at.number c.in_ok-take_key.ensures.free in
     let unspent : w.reads < 281474976710655 = grind (arith, nat_tests, c.in_ok-take_key.ensures.unspent) in
     rw (

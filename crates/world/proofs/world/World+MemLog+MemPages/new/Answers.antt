@@ -3,7 +3,7 @@ use Rattle.history.specs.ListMachine.{fresh}
 use Rattle.dc_core.specs.Kept.{IsDc}
 use Rattle.node_laws.specs.Kept.{IsKept}
 use Rattle.node_laws.specs.Node.{NodeView}
-use Rattle.node_laws.specs.Simulation.{Stands}
+use Rattle.node_laws.specs.Simulation.{NodeStandsFor}
 use Rattle.node_laws.proofs.Machine.Headline.{kept_fresh, fresh_stands_for}
 use Rattle.world.proofs.world.World+MemLog+MemPages.new.Goals as goal
 
@@ -14,5 +14,5 @@ invariant_of-result c =
     (kept_fresh (subst Dc c.in_ok-new.ensures.fresh c.in_ok-new.ensures.dc))
 
 pub returns-clause-stands : goal.returns-clause-stands
-returns-clause-stands c = let P : NodeView → Type 0 = λ w. Stands w fresh in
+returns-clause-stands c = let P : NodeView → Type 0 = λ w. NodeStandsFor w fresh in
     subst P (sym c.in_ok-new.ensures.fresh) fresh_stands_for

@@ -8,7 +8,7 @@ use Rattle.tc_core.specs.OpenTxns.{oldest, wants}
 use Rattle.tc_core.specs.TcView.{TcView}
 use Rattle.dc_core.specs.DcView.{DcView}
 use Rattle.node_laws.specs.Node.{NodeView, AreUp}
-use Rattle.node_laws.specs.Rounds.{AreApart, IsApart, AreRunning, IsNext, round_for}
+use Rattle.node_laws.specs.Rounds.{AreApart, IsApart, AreRunning, IsNextRound, round_for}
 use Rattle.node_laws.proofs.Machine.Settled.{at_rest, serving}
 use Rattle.node_laws.proofs.Settles.Rounds.{next_for, idle_all, rolling_first, unrolled_all}
 use Rattle.world.proofs.world.World.next_round.Goals as goal
@@ -52,7 +52,7 @@ returns-in-Some g c =
     ∙ ap option_copied c.in-Some.is in
     let stable : w.tc.stable ≡ c.stable_end-stable.result =
     ap (λ (x : TcView). x.stable) t.tc_same ∙ sym c.stable_end-stable.ensures in
-    let P : ℕ → Type 0 = λ n. IsNext w (round_for o.txn n o.waiting) in
+    let P : ℕ → Type 0 = λ n. IsNextRound w (round_for o.txn n o.waiting) in
     rw c.answer_round.ensures (subst P stable (next_for w o serving_now c.kept.ensures.kept.tc at))
 
 pub returns-in-Some-first_rolling : goal.returns-in-Some-first_rolling

@@ -1,5 +1,5 @@
 use Rattle.std.proofs.Common.{◌≡◌, ◌∙◌, [], sym, ap, subst}
-use Rattle.dc_core.specs.DcView.{fresh as fresh_dc}
+use Rattle.dc_core.specs.DcView.{fresh_dc}
 use Rattle.dc_core.specs.Kept.{IsDc}
 use Rattle.simulation.specs.Reading.{machine_read}
 use Rattle.simulation.proofs.Reading.{opened_is_read}
@@ -8,7 +8,7 @@ use Rattle.node_laws.specs.Halves.{node_of}
 use Rattle.node_laws.specs.Kept.{IsKept}
 use Rattle.node_laws.specs.Node.{NodeView, joined}
 use Rattle.world.specs.Seen.{seen}
-use Rattle.node_laws.specs.Simulation.{Stands}
+use Rattle.node_laws.specs.Simulation.{NodeStandsFor}
 use Rattle.node_laws.proofs.Machine.Opened.{kept_joined}
 use Rattle.node_laws.proofs.Restarts.TcCrashes.{stands_over}
 use Rattle.world.proofs.world.World.over.Goals as goal
@@ -32,5 +32,5 @@ returns-clause-stands g c =
     let m = machine_read w.log in
     let is : seen c.of-3.result ≡ joined w c.args.dc =
     c.of-3.ensures ∙ (λ i. node_of (c.of.ensures i) (c.of-2.ensures i) [] []) in
-    subst (λ (x : NodeView). Stands x m) (sym is)
+    subst (λ (x : NodeView). NodeStandsFor x m) (sym is)
     (stands_over log.bytes log.usage w m c.kept.ensures log.opened (opened_is_read w.log c.kept.ensures.legal))

@@ -3,7 +3,7 @@ use Rattle.std.specs.List.{insert}
 use Rattle.std.specs.Option.{option_to_list}
 use Rattle.std.proofs.lemmas.List.{get_or_default}
 use Rattle.std.proofs.lemmas.List.Edits.{length-insert}
-use Rattle.btree.specs.Nodes.{NodeView, nothing, under}
+use Rattle.btree.specs.Nodes.{TreeNodeView, nothing, under}
 use Rattle.btree.specs.Finding.{IsIn}
 use Rattle.btree.specs.Below.{seen, IsNode}
 use Rattle.btree.proofs.Changed.{goes_down}
@@ -30,7 +30,7 @@ pub add-right-requires-clause-counted : goal.add-right-requires-clause-counted
 add-right-requires-clause-counted t c =
     let xs = c.in-Inner.children.items in
     let is : under xs ≡ c.args.self.now.leaves =
-    ap (λ (n : NodeView). n.leaves) (ap seen (sym c.in-Inner.is) ∙ c.self.view_is) in
+    ap (λ (n : TreeNodeView). n.leaves) (ap seen (sym c.in-Inner.is) ∙ c.self.view_is) in
     let at : IsIn xs c.args.place c.node_at-i.result.0 c.node_at-i.result.1 =
     rw c.as_slice.ensures.value at c.node_at-i.ensures in
     let child = c.index_mut.ensures.value
@@ -46,7 +46,7 @@ leaves : (t : ℕ) (c : goal.After-as_slice-in-Inner-2 t)
 leaves t c =
     let xs = c.in-Inner.children.items in
     let is : under xs ≡ c.args.self.now.leaves =
-    ap (λ (n : NodeView). n.leaves) (ap seen (sym c.in-Inner.is) ∙ c.self.view_is) in
+    ap (λ (n : TreeNodeView). n.leaves) (ap seen (sym c.in-Inner.is) ∙ c.self.view_is) in
     let i = c.node_at-i.result.0 in
     let rest = c.node_at-i.result.1 in
     let at : IsIn xs c.args.place i rest = rw c.as_slice.ensures.value at c.node_at-i.ensures in

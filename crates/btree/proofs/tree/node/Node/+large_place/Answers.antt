@@ -1,7 +1,7 @@
 use Rattle.std.proofs.Common.{ap, ◌∙◌, sym, subst, arith}
 use Rattle.std.proofs.lemmas.List.{get_or_default}
 use Rattle.btree.specs.Choosing.{first_large}
-use Rattle.btree.specs.Nodes.{NodeView, nothing}
+use Rattle.btree.specs.Nodes.{TreeNodeView, nothing}
 use Rattle.btree.specs.Finding.{IsLargeIn}
 use Rattle.btree.specs.Below.{IsNode}
 use Rattle.btree.proofs.Firsts.{large_within}
@@ -16,5 +16,5 @@ overflow_add-result t c =
     rw c.as_slice.ensures.value at c.large_in-i.ensures in
     let child = c.index.ensures ∙ get_or_default ns c.large_in-i.result.0 c.index.result.now nothing found.there in
     let is = found.is c.large_place.result
-    (ap (λ (n : NodeView). first_large c.args.known n.leaves) (sym child) ∙ c.large_place.ensures) in
+    (ap (λ (n : TreeNodeView). first_large c.args.known n.leaves) (sym child) ∙ c.large_place.ensures) in
     omega (arith, large_within c.args.known _ _ is, kept.counted, kept.fits)

@@ -1,7 +1,7 @@
 use Rattle.std.proofs.Common.{get_or, sym, ap, ◌∙◌}
 use Rattle.std.proofs.lemmas.List.{get_or_default}
 use Rattle.page.specs.Leaf.{first}
-use Rattle.btree.specs.Nodes.{NodeView, nothing}
+use Rattle.btree.specs.Nodes.{TreeNodeView, nothing}
 use Rattle.btree.specs.Finding.{IsIn}
 use Rattle.btree.specs.Below.{seen}
 use Rattle.btree.proofs.AtPlace.{leaf_in}
@@ -16,6 +16,6 @@ returns-in-Inner t c =
     let at : IsIn ns place i rest = rw c.as_slice.ensures.value at c.node_at-i.ensures in
     let child = c.index.ensures ∙ get_or_default ns i c.index.result.now nothing at.there in
     c.leaf.ensures
-    ∙ ap (λ (n : NodeView). get_or n.leaves rest first) child
+    ∙ ap (λ (n : TreeNodeView). get_or n.leaves rest first) child
     ∙ sym (leaf_in ns place i rest at)
-    ∙ ap (λ (n : NodeView). get_or n.leaves place first) (ap seen (sym c.in-Inner.is) ∙ c.self.view_is)
+    ∙ ap (λ (n : TreeNodeView). get_or n.leaves place first) (ap seen (sym c.in-Inner.is) ∙ c.self.view_is)

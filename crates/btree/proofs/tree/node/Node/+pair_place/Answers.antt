@@ -2,7 +2,7 @@ use Rattle.std.proofs.Common.{ap, ◌∙◌, sym, subst, arith}
 use Rattle.std.specs.Option.{is_some}
 use Rattle.std.proofs.lemmas.List.{get_or_default}
 use Rattle.btree.specs.Choosing.{first_pair}
-use Rattle.btree.specs.Nodes.{NodeView, nothing}
+use Rattle.btree.specs.Nodes.{TreeNodeView, nothing}
 use Rattle.btree.specs.Finding.{IsPairIn}
 use Rattle.btree.specs.Below.{IsNode}
 use Rattle.btree.proofs.Firsts.{pair_within}
@@ -18,7 +18,7 @@ overflow_add-result t c =
     let child =
     c.index-child.ensures ∙ get_or_default ns c.pair_in-i.result.0 c.index-child.result.now nothing found.there in
     let is = found.inside c.pair_place.result
-    (ap (λ (n : NodeView). first_pair c.args.known n.leaves) (sym child) ∙ c.pair_place.ensures) in
+    (ap (λ (n : TreeNodeView). first_pair c.args.known n.leaves) (sym child) ∙ c.pair_place.ensures) in
     omega (arith, pair_within c.args.known _ _ is, kept.counted, kept.fits)
 
 pub overflow_add-result-else-has_pair : goal.overflow_add-result-else-has_pair
@@ -30,7 +30,7 @@ overflow_add-result-else-has_pair t c =
     rw c.as_slice.ensures.value at c.pair_in-i.ensures in
     let child =
     c.index-child.ensures ∙ get_or_default ns c.pair_in-i.result.0 c.index-child.result.now nothing found.there in
-    let none = ap (λ (n : NodeView). is_some (first_pair c.args.known n.leaves)) (sym child)
+    let none = ap (λ (n : TreeNodeView). is_some (first_pair c.args.known n.leaves)) (sym child)
     ∙ sym c.has_pair.ensures ∙ c.if-has_pair.false in
-    let many = c.count.ensures ∙ ap (λ (n : NodeView). Rattle.std.proofs.Common.length n.leaves) child in
+    let many = c.count.ensures ∙ ap (λ (n : TreeNodeView). Rattle.std.proofs.Common.length n.leaves) child in
     omega (arith, pair_within c.args.known _ _ (found.across none), many, kept.counted, kept.fits)

@@ -4,7 +4,7 @@ use Rattle.std.proofs.lemmas.List.{get_or_default}
 use Rattle.record_key.specs.Table.{key_of}
 use Rattle.page.specs.Leaf.{LeafView, first, is_in_fences}
 use Rattle.btree.specs.Choosing.{summary_of}
-use Rattle.btree.specs.Nodes.{NodeView, nothing, height_in, over_nodes, under, IsChild, IsWhole}
+use Rattle.btree.specs.Nodes.{TreeNodeView, nothing, height_in, over_nodes, under, IsChild, IsWhole}
 use Rattle.btree.specs.Finding.{IsInside, IsNodeOf, IsPlaceOf}
 use Rattle.btree.specs.Performs.{IsAskedBelow}
 use Rattle.btree.specs.declared.tree.node.Below.TheVariants.{Inner}
@@ -27,7 +27,7 @@ perform-requires t c =
           (omega (arith, more));
     } in
     let inside : IsInside (c.in-Leaf.leaf.value ∷ []) (key_of c.args.op.now) =
-    subst (λ (n : NodeView). IsInside n.leaves (key_of c.args.op.now)) (sym same) c.requires.inside in
+    subst (λ (n : TreeNodeView). IsInside n.leaves (key_of c.args.op.now)) (sym same) c.requires.inside in
     ap (λ (leaf : LeafView). is_in_fences leaf (key_of c.args.op.now)) c.deref_mut.ensures.value ∙ inside 0 alone
 
 module _ (t : ℕ) (c : After-index_mut t) where
@@ -53,19 +53,19 @@ module _ (t : ℕ) (c : After-index_mut t) where
 
   at_child : (q : ℕ) → IsPlaceOf c.index_mut.result.now.leaves (key_of c.args.op.now) q
       → IsPlaceOf (get_or c.in-Inner.children.items i nothing).leaves (key_of c.args.op.now) q
-  at_child q at = subst (λ (n : NodeView). IsPlaceOf n.leaves (key_of c.args.op.now) q) child at
+  at_child q at = subst (λ (n : TreeNodeView). IsPlaceOf n.leaves (key_of c.args.op.now) q) child at
 
   inside : IsInside c.index_mut.result.now.leaves (key_of c.args.op.now)
   inside = λ q at.
-      ap (λ (n : NodeView). is_in_fences (get_or n.leaves q first) (key_of c.args.op.now)) child
+      ap (λ (n : TreeNodeView). is_in_fences (get_or n.leaves q first) (key_of c.args.op.now)) child
       ∙ inside_of_nodes _ c.in-Inner.children.items (key_of c.args.op.now) i q kept.under_it.children node
       (at_child q at)
-      (subst (λ (n : NodeView). IsInside n.leaves (key_of c.args.op.now)) (sym same) c.requires.inside)
+      (subst (λ (n : TreeNodeView). IsInside n.leaves (key_of c.args.op.now)) (sym same) c.requires.inside)
 
 pub perform_into-requires : goal.perform_into-requires
 perform_into-requires t c =
     let lower : c.index_mut.result.now.height < c.args.self.now.height =
-    omega (arith, (one t c.before).level, ap (λ (n : NodeView). n.height) (same t c.before)) in
+    omega (arith, (one t c.before).level, ap (λ (n : TreeNodeView). n.height) (same t c.before)) in
     let whole : IsWhole c.index_mut.result.now = (one t c.before).whole in
     let there : IsInside c.index_mut.result.now.leaves (key_of c.args.op.now) = inside t c.before in
     search rules
@@ -129,17 +129,17 @@ invariant_of-self-in-Inner t c = (after_renewed t c).kept
 
 pub returns-then-not-perform_into-clause-asked : goal.returns-then-not-perform_into-clause-asked
 returns-then-not-perform_into-clause-asked t c =
-    subst (λ (n : NodeView). IsAskedBelow n c.args.number c.args.op.now c.perform_into.new.done
+    subst (λ (n : TreeNodeView). IsAskedBelow n c.args.number c.args.op.now c.perform_into.new.done
     (over_nodes (set c.in-Inner.children.items c.node_of-i.result c.perform_into.new.self)))
     (ap seen (sym c.in-Inner.is) ∙ c.self.view_is) (after_same t c).0.asked
 
 pub returns-then-not-perform_into-clause-same : goal.returns-then-not-perform_into-clause-same
 returns-then-not-perform_into-clause-same t c =
     λ kept. (after_same t c).1
-    ∙ ap (λ (n : NodeView). summary_of n.leaves) (ap seen (sym c.in-Inner.is) ∙ c.self.view_is)
+    ∙ ap (λ (n : TreeNodeView). summary_of n.leaves) (ap seen (sym c.in-Inner.is) ∙ c.self.view_is)
 
 pub returns-else-not-perform_into-clause-asked : goal.returns-else-not-perform_into-clause-asked
 returns-else-not-perform_into-clause-asked t c =
-    subst (λ (n : NodeView). IsAskedBelow n c.args.number c.args.op.now c.perform_into.new.done
+    subst (λ (n : TreeNodeView). IsAskedBelow n c.args.number c.args.op.now c.perform_into.new.done
     (over_nodes (set c.in-Inner.children.items c.node_of-i.result c.perform_into.new.self)))
     (ap seen (sym c.in-Inner.is) ∙ c.self.view_is) (after_renewed t c).asked

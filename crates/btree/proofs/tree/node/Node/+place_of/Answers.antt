@@ -1,6 +1,6 @@
 use Rattle.std.proofs.Common.{◌≡◌, ◌<◌, ◌^◌, ℕ, length, get_or, take, sym, ap, ◌∙◌, subst, arith}
 use Rattle.std.proofs.lemmas.List.{get_or_default}
-use Rattle.btree.specs.Nodes.{NodeView, nothing, under}
+use Rattle.btree.specs.Nodes.{TreeNodeView, nothing, under}
 use Rattle.btree.specs.Finding.{IsNodeOf, IsPlaceOf}
 use Rattle.btree.specs.declared.tree.node.Below.TheVariants.{Inner}
 use Rattle.btree.specs.Below.{seen, IsNode}
@@ -10,7 +10,7 @@ use Rattle.btree.proofs.tree.node.Node.+place_of.Goals as goal
 use Rattle.btree.proofs.tree.node.Node.+place_of.Goals.{After-place_of}
 
 module _ (t : ℕ) (c : After-place_of t) where
-  abbrev ns : Rattle.std.proofs.Common.List NodeView
+  abbrev ns : Rattle.std.proofs.Common.List TreeNodeView
   ns = c.in-Inner.children.items
 
   kept : IsNode c.self.inside.low c.self.inside.count c.self.inside.summary (Inner c.in-Inner.children)
@@ -22,7 +22,7 @@ module _ (t : ℕ) (c : After-place_of t) where
   at : IsPlaceOf (get_or ns c.node_of-i.result nothing).leaves c.args.key.now c.place_of.result
   at =
       let child = c.index.ensures ∙ get_or_default ns c.node_of-i.result c.index.result.now nothing node.there in
-      subst (λ (n : NodeView). IsPlaceOf n.leaves c.args.key.now c.place_of.result) child c.place_of.ensures
+      subst (λ (n : TreeNodeView). IsPlaceOf n.leaves c.args.key.now c.place_of.result) child c.place_of.ensures
 
 pub count_in-before-requires : goal.count_in-before-requires
 count_in-before-requires t c =

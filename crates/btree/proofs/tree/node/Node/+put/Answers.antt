@@ -2,7 +2,7 @@ use Rattle.std.proofs.Common.{◌<◌, ◌^◌, ℕ, refl, sym, ap, ◌∙◌, s
 use Rattle.std.specs.Vec.{with_item}
 use Rattle.page.specs.Leaf.{LeafView}
 use Rattle.btree.specs.Choosing.{summary_of}
-use Rattle.btree.specs.Nodes.{NodeView, IsChangedAt, under}
+use Rattle.btree.specs.Nodes.{TreeNodeView, IsChangedAt, under}
 use Rattle.btree.specs.Finding.{IsIn}
 use Rattle.btree.specs.declared.tree.node.Below.TheVariants.{Inner}
 use Rattle.btree.specs.Below.{seen, IsNode}
@@ -46,7 +46,7 @@ invariant_of-self-in-Inner t c = (change t c.before).kept
 
 pub returns-in-Inner-clause-changed : goal.returns-in-Inner-clause-changed
 returns-in-Inner-clause-changed t c =
-    subst (λ (n : NodeView). IsChangedAt c.args.place n
+    subst (λ (n : TreeNodeView). IsChangedAt c.args.place n
     (seen (Inner (with_item c.in-Inner.children c.node_at-i.result.0 c.put.new.self))))
     (ap seen (sym c.in-Inner.is) ∙ c.self.view_is) (change t c.before).changed
 

@@ -3,7 +3,7 @@ use Rattle.std.specs.Box.{with_value}
 use Rattle.std.proofs.lemmas.List.{length-set, get_or-set_other}
 use Rattle.page.specs.Leaf.{LeafView, raised_to}
 use Rattle.btree.specs.Choosing.{summary_of}
-use Rattle.btree.specs.Nodes.{NodeView, raised_node, under}
+use Rattle.btree.specs.Nodes.{TreeNodeView, raised_node, under}
 use Rattle.btree.specs.declared.tree.node.Below.TheVariants.{Leaf, Inner}
 use Rattle.btree.specs.declared.tree.summary.Summary.{Summary}
 use Rattle.btree.specs.Below.{seen, IsNode}
@@ -24,8 +24,8 @@ loop-i-preserved t c =
     let within : i < length xs = omega (arith, c.loop-i-test.true, c.len-i-end.ensures) in
     let next : set ys i c.raise-in-loop-i.new.self ≡ each_below f (i + 1) xs =
     rw add-one
-    (ap (λ (m : NodeView). set ys i m) (c.raise-in-loop-i.ensures ∙ ap f c.index_mut.ensures.value)
-    ∙ ap (λ (ns : List NodeView). set ns i (f (get_or ns i n))) c.loop-i.invariant.0
+    (ap (λ (m : TreeNodeView). set ys i m) (c.raise-in-loop-i.ensures ∙ ap f c.index_mut.ensures.value)
+    ∙ ap (λ (ns : List TreeNodeView). set ns i (f (get_or ns i n))) c.loop-i.invariant.0
     ∙ each_next f i xs n within) in (
       next,
       c.loop-i.invariant.1,

@@ -2,7 +2,7 @@ use Rattle.std.proofs.Common.{◌≤◌, ℕ, length, ap, ◌∙◌, sym, subst,
 use Rattle.std.proofs.lemmas.Bool.{eqb-true}
 use Rattle.std.proofs.lemmas.List.Edits.{length-remove}
 use Rattle.std.specs.List.{remove}
-use Rattle.btree.specs.Nodes.{NodeView, height_in, over_nodes, AreChildren, IsChild, IsReduced}
+use Rattle.btree.specs.Nodes.{TreeNodeView, height_in, over_nodes, AreChildren, IsChild, IsReduced}
 use Rattle.btree.specs.Finding.{IsIn}
 use Rattle.btree.specs.Below.{seen, IsNode}
 use Rattle.btree.proofs.AtPlace.{place_there}
@@ -33,7 +33,7 @@ are_reduced t c =
     c.self.invariant in
     let at : IsIn xs c.args.place i rest = rw c.as_slice.ensures.value at c.node_at-i.ensures in
     let many : 2 ≤ length xs =
-    subst (λ (n : NodeView). 2 ≤ n.kids) (sym (ap seen (sym c.in-Inner.is) ∙ c.self.view_is))
+    subst (λ (n : TreeNodeView). 2 ≤ n.kids) (sym (ap seen (sym c.in-Inner.is) ∙ c.self.view_is))
     (c.requires.whole.two c.requires.inner) in
     let child : IsChild h c.remove-child.result =
     subst (IsChild h) (sym c.remove-child.ensures.value)
@@ -77,11 +77,11 @@ pub returns-clause-leaves : goal.returns-clause-leaves
 returns-clause-leaves t c =
     let same = ap seen (sym c.in-Inner.is) ∙ c.self.view_is in
     (are_reduced t c.before.before.before.before.before).leaves
-    ∙ ap (λ (n : NodeView). remove n.leaves c.args.place) same
+    ∙ ap (λ (n : TreeNodeView). remove n.leaves c.args.place) same
 
 pub returns-clause-reduced : goal.returns-clause-reduced
 returns-clause-reduced t c =
     let same = ap seen (sym c.in-Inner.is) ∙ c.self.view_is in
-    subst (λ (n : NodeView). IsReduced n.height (over_nodes c.if-not-is_leaf.children.items)) same
+    subst (λ (n : TreeNodeView). IsReduced n.height (over_nodes c.if-not-is_leaf.children.items)) same
     (reduced_over c.in-Inner.children.items c.args.place c.if-not-is_leaf.children.items
     (are_reduced t c.before.before.before.before.before))

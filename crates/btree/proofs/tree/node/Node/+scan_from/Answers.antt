@@ -2,7 +2,7 @@ use Rattle.std.proofs.Common.{◌≡◌, suc, ◌+◌, ◌-◌, Bool, true, fals
 use Rattle.std.specs.Option.{option_copied}
 use Rattle.std.proofs.lemmas.List.{get_or_default}
 use Rattle.record_key.specs.Order.{Range}
-use Rattle.btree.specs.Nodes.{NodeView, nothing, under}
+use Rattle.btree.specs.Nodes.{TreeNodeView, nothing, under}
 use Rattle.btree.specs.Finding.{IsNodeOf}
 use Rattle.btree.specs.Below.{seen, IsNode}
 use Rattle.btree.specs.Scanned.{IsScannedFrom, IsScannedOn}
@@ -24,8 +24,8 @@ returns-then-branch-clause-found g t c =
     subst (λ (ended : Bool). IsScannedFrom s c.index.result.now.leaves old new ended) c.if-branch.true
     c.in_ok-scan_from-in-Inner.ensures.found in
     let one : IsScannedFrom s (get_or ns i nothing).leaves old new true =
-    subst (λ (n : NodeView). IsScannedFrom s n.leaves old new true) child ended in
-    subst (λ (n : NodeView). IsScannedFrom s n.leaves old new true) (ap seen (sym c.in-Inner.is) ∙ c.self.view_is)
+    subst (λ (n : TreeNodeView). IsScannedFrom s n.leaves old new true) child ended in
+    subst (λ (n : TreeNodeView). IsScannedFrom s n.leaves old new true) (ap seen (sym c.in-Inner.is) ∙ c.self.view_is)
     (from_ended s _ ns i kept.under_it.children node old new one)
 
 pub returns-else-branch-clause-found : goal.returns-else-branch-clause-found
@@ -44,13 +44,13 @@ returns-else-branch-clause-found g t c =
     subst (λ (ended : Bool). IsScannedFrom s c.index.result.now.leaves old mid ended) c.if-branch.false
     c.in_ok-scan_from-in-Inner.ensures.found in
     let one : IsScannedFrom s (get_or ns i nothing).leaves old mid false =
-    subst (λ (n : NodeView). IsScannedFrom s n.leaves old mid false) child goes in
+    subst (λ (n : TreeNodeView). IsScannedFrom s n.leaves old mid false) child goes in
     let after : take (length c.deref-in-Inner.result.now - (i + 1)) (drop (i + 1) c.deref-in-Inner.result.now)
     ≡ drop (suc i) ns =
     rw c.deref-in-Inner.ensures.value (nodes_after ns i) in
     let more : IfOk c.scan_nodes.result (λ ended. IsScannedOn s (under (drop (suc i) ns)) mid new ended) =
-    subst (λ (ms : List NodeView). IfOk c.scan_nodes.result (λ ended. IsScannedOn s (under ms) mid new ended)) after
+    subst (λ (ms : List TreeNodeView). IfOk c.scan_nodes.result (λ ended. IsScannedOn s (under ms) mid new ended)) after
     c.scan_nodes.ensures.found in
-    subst (λ (n : NodeView). IfOk c.scan_nodes.result (λ ended. IsScannedFrom s n.leaves old new ended))
+    subst (λ (n : TreeNodeView). IfOk c.scan_nodes.result (λ ended. IsScannedFrom s n.leaves old new ended))
     (ap seen (sym c.in-Inner.is) ∙ c.self.view_is)
     (from_on s _ ns i kept.under_it.children node old mid new c.scan_nodes.result one more)
