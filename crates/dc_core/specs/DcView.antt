@@ -7,7 +7,7 @@ use Rattle.btree.specs.Leaves.{leaf_at}
 use Rattle.page.specs.Leaf.{LeafView}
 use Rattle.page.specs.Tops.{top}
 use Rattle.stable.specs.Usage.{Usage}
-use Rattle.system_txn.specs.SystemView.{SystemView, fresh_dc as fresh_system}
+use Rattle.system_txn.specs.SystemView.{SystemView, fresh_system}
 use Rattle.dc_core.specs.declared.performance.Performance.{Performance}
 
 -- the greatest session taken and the one that runs, 0 if none; whether redo goes on; up to which number no request is

@@ -15,7 +15,7 @@ use Rattle.codec.specs.declared.request.Request.TheVariants as asks
 use Rattle.codec.specs.declared.reply.Reply.{Reply}
 use Rattle.codec.specs.Replies.{has_rows}
 use Rattle.stable.specs.Usage.{unused}
-use Rattle.dc_core.specs.DcView.{DcView, fresh_tc as fresh_dc}
+use Rattle.dc_core.specs.DcView.{DcView, fresh_dc}
 use Rattle.dc_core.specs.Serves.{ServeGives, serve_refusal}
 use Rattle.dc_core.specs.Tends.{SplitsTo, MergesTo, TendsTo, FlushesTo}
 use Rattle.system_txn.specs.declared.devices.Device.{Device}

@@ -5,7 +5,7 @@ use Rattle.codec.specs.declared.request.Request.{Request}
 use Rattle.codec.specs.declared.reply.Reply.{Reply}
 use Rattle.stable.specs.Usage.{unused}
 use Rattle.tc_core.specs.TcView.{fresh_tc}
-use Rattle.dc_core.specs.DcView.{fresh_tc as fresh_dc}
+use Rattle.dc_core.specs.DcView.{fresh_dc}
 use Rattle.node_laws.specs.declared.event.Event.{Event}
 use Rattle.node_laws.specs.declared.event.Out.{Out}
 use Rattle.node_laws.specs.Component.{TcSide, DcSide}

@@ -24,7 +24,7 @@ use Rattle.std.proofs.lemmas.List.{take_more}
 use Rattle.history.specs.ListMachine as machine
 use Rattle.history.specs.ListMachine.{Machine, OfKey, OfRange, Call, ToBegin, ToAct, ToRead, ToSave, ToGoBack, ToRollBack, ToCommit, IsRefused}
 use Rattle.codec.specs.declared.reply.Reply.{Reply}
-use Rattle.dc_core.specs.DcView.{DcView, fresh_tc as fresh_dc}
+use Rattle.dc_core.specs.DcView.{DcView, fresh_dc}
 use Rattle.node_laws.specs.declared.event.Event.{Event}
 use Rattle.node_laws.specs.declared.event.Event.TheVariants as event
 use Rattle.node_laws.specs.declared.event.Out.{Out}
