@@ -1,11 +1,12 @@
 //! The abstract page LSN.
 ghost use Rattle.std.specs.Prelude.{◌≡◌, ℕ, ◌==◌, ◌||◌, ◌&&◌, false, nat_le, OnOk, OnErr, IfOk, IfErr};
 ghost use Rattle.record_key.specs.Entries.{RiseAbove};
+ghost use Rattle.record_key.specs.Lent.{answer_lent};
 ghost use Rattle.ab_lsn.specs.AbLsn.{none_captured, stands_in, captures, saved_in, noted, raised, popped};
 ghost use Rattle.ab_lsn.specs.Parting.{is_under, is_from, stands_with, cut_under, cut_from, joined_with};
 
 use crate::entries::{copied_from, keep_above, place_all};
-use record_key::{Answer, Entries, Key, Refusal};
+use record_key::{Answer, AnswerRef, Entries, Key, Refusal};
 use std::alloc::Global;
 use std::marker::Model;
 
@@ -79,9 +80,9 @@ impl AbLsn {
     }
 
     /// Captures one number more. Refused NoMemory, and unchanged then.
-    pub fn note(&mut self, number: u64, key: &Key, answer: &Answer) -> Result<(), Refusal>
+    pub fn note(&mut self, number: u64, key: &Key, answer: &AnswerRef<'_>) -> Result<(), Refusal>
         requires { captures self.old number ≡ false }
-        ensures noted { OnOk result (self.new ≡ noted self.old number key.now answer.now) }
+        ensures noted { OnOk result (self.new ≡ noted self.old number key.now (answer_lent answer.now)) }
         ensures captured { OnOk result ((m : ℕ) → captures self.new m ≡ (captures self.old m || m == number)) }
         ensures unchanged { OnErr result (self.new ≡ self.old) }
         ensures refused { IfErr result (λ refusal. refusal ≡ Refusal.NoMemory) }

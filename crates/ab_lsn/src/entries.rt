@@ -60,7 +60,7 @@ fn place_above(entries: &mut Entries, low: u64, entry: &Entry) -> Result<(), Ref
     }
     match entries.place_of(entry.number) {
         Ok(_) => {}
-        Err(gap) => entries.insert(gap, entry.number, &entry.key, &entry.answer)?,
+        Err(gap) => entries.insert(gap, entry.number, &entry.key, &entry.answer.lent())?,
     }
     Ok(())
 }

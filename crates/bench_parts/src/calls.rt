@@ -16,7 +16,7 @@ pub fn filled<L: LeafSet + Drop>(alloc: Global, records: u64) -> Result<L, Refus
     let mut leaves: L = one_leaf(alloc)?;
     for record in 0..records {
         let op = upsert_of(record)?;
-        leaves.perform(record + 1, &op)?;
+        perform(&mut leaves, record + 1, &op)?;
         let place = leaves.place_of(op.key());
         if leaves.leaf(place).rows().len() > 8 {
             split_at(&mut leaves, op.key(), record + 2, record + 2)?;
@@ -70,10 +70,17 @@ pub fn get_each<L: LeafSet>(leaves: &L, keys: &[Key]) -> Result<(), Refusal> {
     Ok(())
 }
 
+/// Performs one, and lets its answer go.
+fn perform<L: LeafSet>(leaves: &mut L, number: u64, op: &Op) -> Result<(), Refusal> {
+    let mut answer = None;
+    leaves.perform(number, &op.lent(), 0, &mut answer)?;
+    Ok(())
+}
+
 /// Performs each operation under its number.
 pub fn perform_each<L: LeafSet>(leaves: &mut L, operations: &[(u64, Op)]) -> Result<(), Refusal> {
     for (number, op) in operations {
-        leaves.perform(*number, op)?;
+        perform(leaves, *number, op)?;
     }
     Ok(())
 }

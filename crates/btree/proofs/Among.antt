@@ -1,8 +1,9 @@
 -- What is done at one leaf, or put among them, where leaves stand as they are.
-use Rattle.std.proofs.Common.{◌≡◌, ℕ, zero, suc, ◌<◌, true, List, length, get_or, set, map, Result, Ok, Err, IfOk, OnErr, refl, sym, ap, ◌∙◌, subst, arith}
+use Rattle.std.proofs.Common.{◌≡◌, ℕ, zero, suc, ◌<◌, true, List, length, get_or, set, map, Option, Result, Ok, Err, IfOk, OnErr, refl, sym, ap, ◌∙◌, subst, arith}
 use Rattle.std.specs.List.{insert, remove}
 use Rattle.std.proofs.lemmas.List.{map-id, set-get_or}
 use Rattle.record_key.specs.declared.op.Op.{Op}
+use Rattle.record_key.specs.declared.op.Answer.{Answer}
 use Rattle.record_key.specs.declared.refusal.Refusal.{Refusal}
 use Rattle.record_key.specs.Table.{Bytes, key_of}
 use Rattle.page.specs.declared.leaf.Done.{Done}
@@ -30,35 +31,35 @@ leaf_found leaves k p kept at =
     ∙ subst (λ (ls : List LeafView). get_or leaves (place_at ls k) first ≡ leaf_at ls k) (map-id leaves)
     (leaf_there itself leaves k first (subst P (sym (map-id leaves)) there))
 
-performs_at : (leaves : List LeafView) (n : ℕ) (o : Op) (done : Done) (x : LeafView)
-    → place_at leaves (key_of o) < length leaves → Performs (leaf_at leaves (key_of o)) n o done x
-    → PerformsAt leaves n o done (set leaves (place_at leaves (key_of o)) x)
-performs_at leaves n o done x there performs =
+performs_at : (leaves : List LeafView) (n : ℕ) (o : Op) (done : Done) (answer : Option Answer) (x : LeafView)
+    → place_at leaves (key_of o) < length leaves → Performs (leaf_at leaves (key_of o)) n o done answer x
+    → PerformsAt leaves n o done answer (set leaves (place_at leaves (key_of o)) x)
+performs_at leaves n o done answer x there performs =
     let P : List LeafView → Type 0 = λ (ls : List LeafView).
-    place_at ls (key_of o) < length leaves → Performs (leaf_at ls (key_of o)) n o done x
-    → PerformsAt ls n o done (set leaves (place_at ls (key_of o)) x) in
+    place_at ls (key_of o) < length leaves → Performs (leaf_at ls (key_of o)) n o done answer x
+    → PerformsAt ls n o done answer (set leaves (place_at ls (key_of o)) x) in
     let all : P (map itself leaves) = λ there performs.
-    subst (λ (ls : List LeafView). PerformsAt (map itself leaves) n o done ls)
+    subst (λ (ls : List LeafView). PerformsAt (map itself leaves) n o done answer ls)
     (map-id (set leaves (place_at (map itself leaves) (key_of o)) x))
-    (performs_there itself leaves n o done x there performs) in
+    (performs_there itself leaves n o done answer x there performs) in
     subst P (map-id leaves) all there performs
 
 -- a request at the leaf of its key
-pub performs_among : (p : ℕ) (old new : TreeNodeView) (n : ℕ) (o : Op) (result : Result Done Refusal) → AreLeaves old.leaves
-    → IsPlaceOf old.leaves (key_of o) p → IsChangedAt p old new
-    → IfOk result (λ done. Performs (get_or old.leaves p first) n o done (get_or new.leaves p first))
-    → IfOk result (λ done. PerformsAt old.leaves n o done new.leaves)
-performs_among p old new n o (Ok done) kept at change performs =
+pub performs_among : (p : ℕ) (old new : TreeNodeView) (n : ℕ) (o : Op) (result : Result Done Refusal)
+    (answer : Option Answer) → AreLeaves old.leaves → IsPlaceOf old.leaves (key_of o) p → IsChangedAt p old new
+    → IfOk result (λ done. Performs (get_or old.leaves p first) n o done answer (get_or new.leaves p first))
+    → IfOk result (λ done. PerformsAt old.leaves n o done answer new.leaves)
+performs_among p old new n o (Ok done) answer kept at change performs =
     let is = place_found old.leaves (key_of o) p kept at in
     let there : place_at old.leaves (key_of o) < length old.leaves =
     subst (λ (q : ℕ). q < length old.leaves) is at.there in
-    let at_leaf : Performs (leaf_at old.leaves (key_of o)) n o done (get_or new.leaves p first) =
-    subst (λ (leaf : LeafView). Performs leaf n o done (get_or new.leaves p first))
+    let at_leaf : Performs (leaf_at old.leaves (key_of o)) n o done answer (get_or new.leaves p first) =
+    subst (λ (leaf : LeafView). Performs leaf n o done answer (get_or new.leaves p first))
     (leaf_found old.leaves (key_of o) p kept at) performs in
-    subst (λ (ls : List LeafView). PerformsAt old.leaves n o done ls)
+    subst (λ (ls : List LeafView). PerformsAt old.leaves n o done answer ls)
     (ap (λ (q : ℕ). set old.leaves q (get_or new.leaves p first)) (sym is) ∙ sym change.leaves)
-    (performs_at old.leaves n o done (get_or new.leaves p first) there at_leaf)
-performs_among p old new n o (Err refusal) kept at change performs = tt
+    (performs_at old.leaves n o done answer (get_or new.leaves p first) there at_leaf)
+performs_among p old new n o (Err refusal) answer kept at change performs = tt
 
 pub split_among : (leaves : List LeafView) (p id d : ℕ) (x y leaf : LeafView) → may_split_at leaves p ≡ true
     → leaf ≡ get_or leaves p first

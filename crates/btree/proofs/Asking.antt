@@ -1,14 +1,17 @@
 -- What a request below nodes leaves.
-use Rattle.std.proofs.Common.{◌≡◌, ℕ, ◌+◌, length, get_or, set, take, Option, Vec, vec_capacity, Result, sym, ap, ◌∙◌, subst, arith}
+use Rattle.std.proofs.Common.{◌≡◌, ℕ, ◌+◌, [], ◌∷◌, length, get_or, set, take, Option, Vec, vec_capacity, Result, Ok, Err, refl, sym, ap, ◌∙◌, subst, arith, inl, inr}
 use Rattle.std.specs.declared.alloc.Global.{Global}
+use Rattle.std.proofs.lemmas.Bool.{cases_Bool}
 use Rattle.std.proofs.lemmas.List.{get_or_default}
 use Rattle.record_key.specs.declared.op.Op.{Op}
+use Rattle.record_key.specs.declared.op.Answer.{Answer}
 use Rattle.record_key.specs.declared.refusal.Refusal.{Refusal}
 use Rattle.record_key.specs.Table.{Bytes, key_of}
+use Rattle.ab_lsn.specs.AbLsn.{captures}
 use Rattle.page.specs.declared.leaf.Done.{Done}
 use Rattle.page.specs.Leaf.{LeafView, first}
 use Rattle.btree.specs.Choosing.{summary_of}
-use Rattle.btree.specs.Nodes.{TreeNodeView, nothing, under, height_in, IsChild}
+use Rattle.btree.specs.Nodes.{TreeNodeView, nothing, over_leaf, under, height_in, IsChild}
 use Rattle.btree.specs.Finding.{IsIn, IsNodeOf, IsPlaceOf}
 use Rattle.btree.specs.Performs.{IsAsked, IsAskedBelow}
 use Rattle.btree.specs.declared.tree.node.Below.TheVariants.{Inner}
@@ -20,18 +23,55 @@ use Rattle.btree.proofs.PlaceOf.{here, place_of_nodes}
 use Rattle.btree.proofs.Resummed.{resummed}
 use Rattle.btree.proofs.Whole.{all_get}
 
+-- ---- at a leaf alone
+
+pub alone : (leaf : LeafView) (k : Bytes) → IsPlaceOf (leaf ∷ []) k 0
+alone leaf k = record {
+  there = omega arith;
+  starts = λ some. absurd (omega (arith, some));
+  ends = λ more. absurd (omega (arith, more));
+}
+
+same_low : (old new : LeafView) (n : ℕ) (o : Op) (result : Result Done Refusal) (answer : Option Answer)
+    → IsAsked old new n o result answer → new.low_fence ≡ old.low_fence
+same_low old new n o (Ok done) answer asked =
+    let low : LeafView → Option Bytes = λ (leaf : LeafView). leaf.low_fence in
+    elim (cases_Bool (captures old.ab n)) [
+      | inl captured ↦ let repeated = rw captured at asked.done in ap low repeated.1.1
+      | inr out ↦ let first = rw out at asked.done in ap low first.1.1
+    ]
+same_low old new n o (Err refusal) answer asked = ap (λ (leaf : LeafView). leaf.low_fence) asked.refused
+
+pub leaf_asked : (old new : LeafView) (n : ℕ) (o : Op) (result : Result Done Refusal) (answer : Option Answer)
+    → IsAsked old new n o result answer
+    → IsAskedBelow (over_leaf old) n o result answer (over_leaf new)
+leaf_asked old new n o result answer asked = record {
+  place = 0;
+  at = alone old (key_of o);
+  changed = record {
+    leaves = refl;
+    height = refl;
+    kids = refl;
+    begins = same_low old new n o result answer asked;
+  };
+  asked = asked;
+}
+
+-- ---- below nodes
+
 -- what a request below nodes leaves
 pub record IsAfter (low : Option Bytes) (count : ℕ) (summary : Summary) (xs ys : Vec TreeNodeView Global) (n : ℕ) (o : Op)
-    (result : Result Done Refusal) : Type 0 where
+    (result : Result Done Refusal) (answer : Option Answer) : Type 0 where
   pub kept : IsNode low count summary (Inner ys)
-  pub asked : IsAskedBelow (seen (Inner xs)) n o result (seen (Inner ys))
+  pub asked : IsAskedBelow (seen (Inner xs)) n o result answer (seen (Inner ys))
 
 pub inner_asked : (low : Option Bytes) (count : ℕ) (summary again : Summary) (xs ys : Vec TreeNodeView Global) (i : ℕ)
-    (child node : TreeNodeView) (n : ℕ) (o : Op) (result : Result Done Refusal) → IsNode low count summary (Inner xs)
-    → IsNodeOf xs.items (key_of o) i → child ≡ get_or xs.items i child → IsAskedBelow child n o result node
+    (child node : TreeNodeView) (n : ℕ) (o : Op) (result : Result Done Refusal) (answer : Option Answer)
+    → IsNode low count summary (Inner xs) → IsNodeOf xs.items (key_of o) i → child ≡ get_or xs.items i child
+    → IsAskedBelow child n o result answer node
     → ys.items ≡ set xs.items i node → vec_capacity ys ≡ vec_capacity xs → again ≡ summary_of (under ys.items)
-    → IsAfter low count again xs ys n o result
-inner_asked low count summary again xs ys i child node n o result kept of is below items room summed =
+    → IsAfter low count again xs ys n o result answer
+inner_asked low count summary again xs ys i child node n o result answer kept of is below items room summed =
     let q = below.place in
     let p = length (under (take i xs.items)) + q in
     let there : child ≡ get_or xs.items i nothing = is ∙ get_or_default xs.items i child nothing of.there in
@@ -48,19 +88,21 @@ inner_asked low count summary again xs ys i child node n o result kept of is bel
         place = p;
         at = place_of_nodes _ xs.items (key_of o) i q kept.under_it.children of found;
         changed = change.changed;
-        asked = subst (λ (leaf : LeafView). IsAsked (get_or (under xs.items) p first) leaf n o result) (sym change.leaf)
-            (subst (λ (leaf : LeafView). IsAsked leaf (get_or node.leaves q first) n o result) old below.asked);
+        asked = subst (λ (leaf : LeafView). IsAsked (get_or (under xs.items) p first) leaf n o result answer)
+            (sym change.leaf)
+            (subst (λ (leaf : LeafView). IsAsked leaf (get_or node.leaves q first) n o result answer) old below.asked);
       };
     }
 
 -- what it leaves where the child's summary is the same
 pub same_asked : (low : Option Bytes) (count : ℕ) (summary : Summary) (xs ys : Vec TreeNodeView Global) (i : ℕ)
-    (child node : TreeNodeView) (n : ℕ) (o : Op) (result : Result Done Refusal) → IsNode low count summary (Inner xs)
-    → IsNodeOf xs.items (key_of o) i → child ≡ get_or xs.items i child → IsAskedBelow child n o result node
+    (child node : TreeNodeView) (n : ℕ) (o : Op) (result : Result Done Refusal) (answer : Option Answer)
+    → IsNode low count summary (Inner xs) → IsNodeOf xs.items (key_of o) i → child ≡ get_or xs.items i child
+    → IsAskedBelow child n o result answer node
     → ys.items ≡ set xs.items i node → vec_capacity ys ≡ vec_capacity xs
     → summary_of node.leaves ≡ summary_of child.leaves
-    → IsAfter low count summary xs ys n o result × (summary_of (under ys.items) ≡ summary_of (under xs.items))
-same_asked low count summary xs ys i child node n o result kept of is below items room same =
+    → IsAfter low count summary xs ys n o result answer × (summary_of (under ys.items) ≡ summary_of (under xs.items))
+same_asked low count summary xs ys i child node n o result answer kept of is below items room same =
     let there : child ≡ get_or xs.items i nothing = is ∙ get_or_default xs.items i child nothing of.there in
     let one : IsChild (height_in xs.items) (get_or xs.items i nothing) =
     all_get (IsChild (height_in xs.items)) xs.items i nothing of.there kept.under_it.children in
@@ -70,7 +112,7 @@ same_asked low count summary xs ys i child node n o result kept of is below item
     ap (λ ms. summary_of (under ms)) items
     ∙ resummed xs.items i node of.there one.whole.some (omega (arith, many, one.whole.some))
     (same ∙ ap (λ (m : TreeNodeView). summary_of m.leaves) there) in (
-      inner_asked low count summary summary xs ys i child node n o result kept of is below items room
+      inner_asked low count summary summary xs ys i child node n o result answer kept of is below items room
           (kept.summed ∙ sym again),
       again,
     )

@@ -6,6 +6,7 @@ use Rattle.std.proofs.lemmas.List.{length-map}
 use Rattle.std.specs.List.Sorted.{IsPartitionedBy, IsPartitionPoint}
 use Rattle.std.proofs.lemmas.Bool.{cases_Bool, and_parts, not-true, false_from_ne_true}
 use Rattle.record_key.specs.declared.op.Op.{Op}
+use Rattle.record_key.specs.declared.op.Answer.{Answer}
 use Rattle.record_key.specs.Table.{Bytes, key_of}
 use Rattle.record_key.specs.Order.{is_below, starts_at_most, ends_above}
 use Rattle.ab_lsn.specs.AbLsn.{captures}
@@ -166,23 +167,29 @@ module _ {X : Type 0} (leaf_of : X → LeafView) where
   same_there (y ∷ xs) (suc p) x d is = ap (λ (leaves : List LeafView). leaf_of y ∷ leaves) (same_there xs p x d is)
 
   -- a request at the leaf there is one among the leaves
-  pub performs_there : (xs : List X) (n : ℕ) (o : Op) (done : Done) (x : X)
+  pub performs_there : (xs : List X) (n : ℕ) (o : Op) (done : Done) (answer : Option Answer) (x : X)
       → place_at (map leaf_of xs) (key_of o) < length xs
-      → Performs (leaf_at (map leaf_of xs) (key_of o)) n o done (leaf_of x)
-      → PerformsAt (map leaf_of xs) n o done (map leaf_of (set xs (place_at (map leaf_of xs) (key_of o)) x))
-  performs_there xs n o done x within performs =
+      → Performs (leaf_at (map leaf_of xs) (key_of o)) n o done answer (leaf_of x)
+      → PerformsAt (map leaf_of xs) n o done answer (map leaf_of (set xs (place_at (map leaf_of xs) (key_of o)) x))
+  performs_there xs n o done answer x within performs =
       let leaf : LeafView = leaf_at (map leaf_of xs) (key_of o) in
       elim (cases_Bool (captures leaf.ab n)) [
         | inl captured ↦
             let repeated = rw captured at performs in
             rw captured (
               repeated.0,
-              same_there xs (place_at (map leaf_of xs) (key_of o)) x x
-                  (repeated.1 ∙ sym (leaf_there xs (key_of o) x within)),
+              (
+                repeated.1.0,
+                same_there xs (place_at (map leaf_of xs) (key_of o)) x x
+                    (repeated.1.1 ∙ sym (leaf_there xs (key_of o) x within)),
+              ),
             )
         | inr out ↦
             let new = rw out at performs in
-            rw out (new.0, changed_there (λ leaf. performed leaf n o) xs (key_of o) x within new.1)
+            rw out (
+              new.0,
+              (new.1.0, changed_there (λ leaf. performed leaf n o) xs (key_of o) x within new.1.1),
+            )
       ]
 
   -- ---- what is put among them

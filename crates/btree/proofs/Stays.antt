@@ -1,9 +1,10 @@
 -- Leaves that perform, are raised, are parted or joined have all keys among them still, and the same table.
-use Rattle.std.proofs.Common.{◌≡◌, ◌≢◌, ℕ, true, false, List, [], ◌∷◌, None, Result, Ok, Err, IfOk, OnErr, map, refl, sym, ap, ◌∙◌, subst, inl, inr, true≢false}
+use Rattle.std.proofs.Common.{◌≡◌, ◌≢◌, ℕ, true, false, List, [], ◌∷◌, Option, None, Result, Ok, Err, IfOk, OnErr, map, refl, sym, ap, ◌∙◌, subst, inl, inr, true≢false}
 use Rattle.std.specs.List.{AllByRecursion}
 use Rattle.std.specs.FinMap as table
 use Rattle.std.proofs.lemmas.Bool.{cases_Bool}
 use Rattle.record_key.specs.declared.op.Op.{Op}
+use Rattle.record_key.specs.declared.op.Answer.{Answer}
 use Rattle.record_key.specs.declared.refusal.Refusal.{Refusal}
 use Rattle.record_key.specs.Table.{Bytes, key_of, answer_at, value_after, after}
 use Rattle.record_key.proofs.Tables.{is_same, is_same-refl, is_same-true, get-with_record_same, get-with_record_other, same_table}
@@ -87,15 +88,15 @@ module _ (leaves : List LeafView) (n : ℕ) (o : Op) (kept : AreLeaves leaves)
   }
 
 -- a request, or one that was refused
-pub asked_leaves : (old new : List LeafView) (n : ℕ) (o : Op) (result : Result Done Refusal)
-    → IfOk result (λ done. PerformsAt old n o done new) → OnErr result (new ≡ old)
-    → AreLeaves old → AreLeaves new
-asked_leaves old new n o (Ok done) performs refused kept =
+pub asked_leaves : (old new : List LeafView) (n : ℕ) (o : Op) (result : Result Done Refusal) (answer : Option Answer)
+    → IfOk result (λ done. PerformsAt old n o done answer new) → OnErr result (new ≡ old) → AreLeaves old
+    → AreLeaves new
+asked_leaves old new n o (Ok done) answer performs refused kept =
     elim (cases_Bool (captures (leaf_at old (key_of o)).ab n)) [
-      | inl captured ↦ let repeated = rw captured at performs in subst AreLeaves (sym repeated.1) kept
-      | inr out ↦ let first = rw out at performs in subst AreLeaves (sym first.1) (performed_leaves old n o kept out)
+      | inl captured ↦ let repeated = rw captured at performs in subst AreLeaves (sym repeated.1.1) kept
+      | inr out ↦ let first = rw out at performs in subst AreLeaves (sym first.1.1) (performed_leaves old n o kept out)
     ]
-asked_leaves old new n o (Err refusal) performs refused kept = subst AreLeaves (sym refused) kept
+asked_leaves old new n o (Err refusal) answer performs refused kept = subst AreLeaves (sym refused) kept
 
 -- ---- leaves of which each key has the value that it had
 

@@ -1,7 +1,8 @@
 //! Leaves in boxes, in key order: the leaf of a key, what is done there, and leaves that are put among them.
 ghost use Rattle.std.specs.Prelude.{◌≡◌, ◌+◌, ◌<◌, true, not, length, map, get_or, set, vec_len};
-ghost use Rattle.std.specs.Prelude.{OnErr, IfOk, IfErr, IsOk, IsOkUnless};
+ghost use Rattle.std.specs.Prelude.{OnOk, OnErr, IfOk, IfErr, IsOk, IsOkUnless};
 ghost use Rattle.std.specs.Vec.{vec_capacity};
+ghost use Rattle.record_key.specs.Lent.{op_lent};
 ghost use Rattle.record_key.specs.Table.{key_of};
 ghost use Rattle.record_key.specs.Order.{ends_above};
 ghost use Rattle.ab_lsn.specs.AbLsn.{captures};
@@ -12,8 +13,8 @@ ghost use Rattle.btree.specs.Parting.{may_split_at, may_merge_at, split_at, merg
 ghost use Rattle.btree.specs.Performs.{PerformsAt};
 
 use crate::parting::{Merge, Split};
-use page::{Done, Leaf};
-use record_key::{Key, Op, Refusal};
+use page::{AnswerSink, Done, Leaf};
+use record_key::{Key, OpRef, Refusal};
 
 /// The place of the leaf that has the key.
 pub fn place_in(leaves: &[Box<Leaf>], key: &Key) -> usize
@@ -35,16 +36,26 @@ fn ends_at_most(leaf: &Leaf, key: &Key) -> bool
 }
 
 /// Performs the operation at the leaf of its key.
-pub fn perform_in(leaves: &mut Vec<Box<Leaf>>, number: u64, op: &Op) -> Result<Done, Refusal>
-    requires { AreLeaves (leaves_in leaves.old.items) }
-    ensures done { IfOk result (λ done.
-        PerformsAt (leaves_in leaves.old.items) number op.now done (leaves_in leaves.new.items)) }
-    ensures repeated { captures (leaf_at (leaves_in leaves.old.items) (key_of op.now)).ab number ≡ true → IsOk result }
+pub fn perform_in<S: AnswerSink>(
+    leaves: &mut Vec<Box<Leaf>>,
+    number: u64,
+    op: &OpRef<'_>,
+    asker: u64,
+    sink: &mut S,
+) -> Result<Done, Refusal>
+    requires leaves { AreLeaves (leaves_in leaves.old.items) }
+    requires may { S.may_take sink.old asker number }
+    ensures done { IfOk result (λ done. PerformsAt (leaves_in leaves.old.items) number (op_lent op.now) done
+        (S.told sink.new) (leaves_in leaves.new.items)) }
+    ensures given { OnOk result (S.takes sink.old asker number (S.told sink.new) sink.new) }
+    ensures repeated { captures (leaf_at (leaves_in leaves.old.items) (key_of (op_lent op.now))).ab number ≡ true
+        → IsOk result }
     ensures refused { OnErr result (leaves_in leaves.new.items ≡ leaves_in leaves.old.items) }
+    ensures kept { OnErr result (sink.new ≡ sink.old) }
     ensures memory { IsOkUnless result Refusal.NoMemory }
 {
     let place = place_in(leaves.as_slice(), op.key());
-    let done = leaves[place].perform(number, op)?;
+    let done = leaves[place].perform(number, op, asker, sink)?;
     Ok(done)
 }
 

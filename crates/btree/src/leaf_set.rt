@@ -3,6 +3,7 @@ ghost use Rattle.std.specs.Prelude.{◌≡◌, ℕ, ◌+◌, ◌<◌, true, List
 ghost use Rattle.std.specs.Prelude.{OnOk, OnErr, IfOk, IsOk, IsOkUnless};
 ghost use Rattle.std.specs.Option.{option_copied};
 ghost use Rattle.std.specs.FinMap as table;
+ghost use Rattle.record_key.specs.Lent.{op_lent};
 ghost use Rattle.record_key.specs.Table.{key_of};
 ghost use Rattle.ab_lsn.specs.AbLsn.{captures};
 ghost use Rattle.record_key.specs.Order.{rows_in};
@@ -13,8 +14,8 @@ ghost use Rattle.btree.specs.Parting.{may_split_at, may_merge_at, split_at, merg
 ghost use Rattle.btree.specs.Performs.{PerformsAt};
 
 use crate::parting::{Merge, Split};
-use page::{Done, Leaf, RowSink};
-use record_key::{Key, Op, Refusal, Value};
+use page::{AnswerSink, Done, Leaf, RowSink};
+use record_key::{Key, OpRef, Refusal, Value};
 use std::alloc::Global;
 
 /// Leaves in key order, which have all keys among them. A place counts them from 0.
@@ -53,12 +54,24 @@ pub trait LeafSet {
         ensures place { result ≡ place_at (leaves self.now) key.now }
         ensures within { result < length (leaves self.now) };
 
-    /// Performs the operation under this number at the leaf of its key, or gives the answer that it had under it
-    /// before, if that is still kept. Refused NoMemory, and unchanged then; a repeated number takes no memory.
-    fn perform(&mut self, number: u64, op: &Op) -> Result<Done, Refusal>
-        ensures done { IfOk result (λ done. PerformsAt (leaves self.old) number op.now done (leaves self.new)) }
-        ensures repeated { captures (leaf_at (leaves self.old) (key_of op.now)).ab number ≡ true → IsOk result }
+    /// Performs the operation under this number at the leaf of its key, or finds that it had been performed under it
+    /// before; its answer then goes to the asker again, if that is still kept. Refused NoMemory, and unchanged then; a
+    /// repeated number takes no memory.
+    fn perform<S: AnswerSink>(
+        &mut self,
+        number: u64,
+        op: &OpRef<'_>,
+        asker: u64,
+        sink: &mut S,
+    ) -> Result<Done, Refusal>
+        requires may { S.may_take sink.old asker number }
+        ensures done { IfOk result (λ done.
+            PerformsAt (leaves self.old) number (op_lent op.now) done (S.told sink.new) (leaves self.new)) }
+        ensures given { OnOk result (S.takes sink.old asker number (S.told sink.new) sink.new) }
+        ensures repeated { captures (leaf_at (leaves self.old) (key_of (op_lent op.now))).ab number ≡ true
+            → IsOk result }
         ensures refused { OnErr result (leaves self.new ≡ leaves self.old) }
+        ensures kept { OnErr result (sink.new ≡ sink.old) }
         ensures memory { IsOkUnless result Refusal.NoMemory };
 
     /// The value at the key. Takes no memory.

@@ -6,8 +6,8 @@ use crate::choosing::{large_in, pair_in};
 use crate::leaf_set::LeafSet;
 use crate::parting::{Merge, Split};
 use crate::range_scan::scan_in;
-use page::{Done, Leaf, RowSink};
-use record_key::{Key, Op, Refusal, Value};
+use page::{AnswerSink, Done, Leaf, RowSink};
+use record_key::{Key, OpRef, Refusal, Value};
 use std::alloc::Global;
 use std::marker::Model;
 
@@ -70,8 +70,14 @@ impl LeafSet for LeafList {
         place_in(self.leaves.as_slice(), key)
     }
 
-    fn perform(&mut self, number: u64, op: &Op) -> Result<Done, Refusal> {
-        perform_in(&mut self.leaves, number, op)
+    fn perform<S: AnswerSink>(
+        &mut self,
+        number: u64,
+        op: &OpRef<'_>,
+        asker: u64,
+        sink: &mut S,
+    ) -> Result<Done, Refusal> {
+        perform_in(&mut self.leaves, number, op, asker, sink)
     }
 
     fn get(&self, key: &Key) -> Option<&Value> {

@@ -18,8 +18,8 @@ use crate::parting::{Merge, Split};
 use building::{build, make_blocks};
 use growing::insert_in;
 use node::Node;
-use page::{Done, Leaf, RowSink};
-use record_key::{Key, Op, Refusal, Value};
+use page::{AnswerSink, Done, Leaf, RowSink};
+use record_key::{Key, OpRef, Refusal, Value};
 use shrinking::remove_in;
 use std::alloc::Global;
 use std::marker::Model;
@@ -83,8 +83,14 @@ impl LeafSet for Tree {
         self.root.place_of(key)
     }
 
-    fn perform(&mut self, number: u64, op: &Op) -> Result<Done, Refusal> {
-        self.root.perform(number, op)
+    fn perform<S: AnswerSink>(
+        &mut self,
+        number: u64,
+        op: &OpRef<'_>,
+        asker: u64,
+        sink: &mut S,
+    ) -> Result<Done, Refusal> {
+        self.root.perform(number, op, asker, sink)
     }
 
     fn get(&self, key: &Key) -> Option<&Value> {

@@ -1,16 +1,19 @@
 -- What a request to perform and a reply that answers tell, read from the bytes behind their kind.
-use Rattle.std.proofs.Common.{◌≡◌, ◌≢◌, ◌∙◌, ℕ, false, eqb, List, [], ◌∷◌, ◌++◌, drop, Option, Some, None, refl, sym, ap, append-nil}
+use Rattle.std.proofs.Common.{◌≡◌, ◌≢◌, ◌∙◌, ℕ, false, eqb, List, [], ◌∷◌, ◌++◌, drop, Option, Some, None, option_map, refl, sym, ap, append-nil}
 use Rattle.std.specs.Prelude.{IfSome}
 use Rattle.std.proofs.lemmas.Bool.{eqb-false}
 use Rattle.std.proofs.lemmas.List.{drop_at}
+use Rattle.record_key.specs.Table.{Bytes}
 use Rattle.record_key.specs.declared.op.Op.{Op}
+use Rattle.record_key.specs.declared.lent.Change.{Change}
+use Rattle.record_key.specs.Lent.{op_on}
 use Rattle.codec.specs.declared.parted.Asking.{Asking}
 use Rattle.codec.specs.declared.request.Request.{Request}
 use Rattle.codec.specs.declared.request.Request.TheVariants as asks
 use Rattle.codec.specs.declared.reply.Reply.{Reply}
 use Rattle.codec.specs.declared.reply.Reply.TheVariants as says
 use Rattle.codec.specs.Fields.{number, IsNumber, optional, op_bytes}
-use Rattle.codec.specs.Parted.{both, asking_of, answered_of, asked_parts}
+use Rattle.codec.specs.Parted.{both, asked_with, asking_of, answered_of, asked_parts}
 use Rattle.codec.specs.Reading.{Reader, pair, mapped, number_at, op_at, optional_at, answer_at}
 use Rattle.codec.specs.Replies.{reply_bytes, IsReply}
 use Rattle.codec.specs.Requests.{request_bytes, IsRequest}
@@ -35,6 +38,12 @@ asked_at = mapped asked_parts (pair number_at (pair number_at (pair number_at op
 abbrev pub both_first : Option ((Asking × Option Op) × List ℕ) → Option (Asking × Op)
 both_first None = None
 both_first (Some x) = both (Some x.0.0) x.0.1
+
+-- the operation is kept as its key and what is done to the key's record
+pub with_key : (asked : Asking × Change) (key : Option Bytes)
+    → asked_with (Some asked) key ≡ both (Some asked.0) (option_map (λ k. op_on k asked.1) key)
+with_key asked None = refl
+with_key asked (Some key) = refl
 
 -- behind its kind, a request to perform is read so
 pub asking_told : (r : Request) (k : ℕ) (tail : List ℕ) → IsRequest r → k ∷ tail ≡ request_bytes r → k ≡ 2

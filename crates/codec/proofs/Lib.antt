@@ -20,6 +20,7 @@ pub mod Asked
 pub mod Cuts
 mod Told
 mod Sessions
+mod SpelledAnswers
 mod Apart
 mod ApartReads
 mod KeptRows

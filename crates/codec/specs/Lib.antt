@@ -14,3 +14,4 @@ pub mod Reading
 pub mod Writing
 pub mod Parted
 pub mod Undoing
+pub mod Given

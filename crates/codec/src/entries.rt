@@ -34,14 +34,12 @@ fn take_entry(bytes: &[u8]) -> Option<(Entry, &[u8])>
 {
     let (number, rest) = take_number(bytes)?;
     let (key, rest) = take_key(rest)?;
-    let mut answer = None;
-    let rest = take_answer(rest, &mut answer)?;
-    let answer = answer?;
+    let (answer, rest) = take_answer(rest)?;
     Some((
         Entry {
             number,
             key,
-            answer,
+            answer: answer.owned(),
         },
         rest,
     ))
@@ -83,7 +81,7 @@ fn entry_len(entry: &Entry) -> usize
     ensures bounded { result ≤ 163 }
     ensures spelled { IsEntry entry.now }
 {
-    HEADER_LEN + key_len(&entry.key) + answer_len(&entry.answer)
+    HEADER_LEN + key_len(&entry.key) + answer_len(&entry.answer.lent())
 }
 
 /// How many bytes each entry takes, together. None where that is 2 to the power of 64 or more.
@@ -109,7 +107,7 @@ fn put_entry(out: &mut Vec<u8>, entry: &Entry)
 {
     put_number(out, entry.number);
     put_text(out, entry.key.as_bytes());
-    put_answer(out, &entry.answer);
+    put_answer(out, &entry.answer.lent());
 }
 
 fn put_each(out: &mut Vec<u8>, entries: &Entries)

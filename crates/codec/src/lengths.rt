@@ -1,9 +1,10 @@
 //! How many bytes each part of a frame takes. A value of its type has a spelling, by the lengths that the type keeps.
 ghost use Rattle.std.specs.Prelude.{◌≡◌, ◌≤◌, ◌++◌, length, IfSome};
 ghost use Rattle.std.specs.Option.{option_copied};
+ghost use Rattle.record_key.specs.Lent.{answer_lent};
 ghost use Rattle.codec.specs.Fields.{number, IsAmount, text, IsKey, IsValue, optional, op_bytes, IsOp, answer_bytes, IsAnswer};
 
-use record_key::{Answer, Key, Op, Value};
+use record_key::{Answer, AnswerRef, Key, Op, Value, ValueRef};
 
 pub(crate) fn key_len(key: &Key) -> usize
     ensures len { result ≡ length (text key.now) }
@@ -13,7 +14,7 @@ pub(crate) fn key_len(key: &Key) -> usize
     1 + key.as_bytes().len()
 }
 
-pub(crate) fn value_len(value: &Value) -> usize
+pub(crate) fn value_len(value: &ValueRef<'_>) -> usize
     ensures len { result ≡ length (text value.now) }
     ensures bounded { result ≤ 121 }
     ensures spelled { IsValue value.now }
@@ -28,7 +29,7 @@ pub(crate) fn row_len(key: &Key, value: &Value) -> usize
     ensures key { IsKey key.now }
     ensures value { IsValue value.now }
 {
-    key_len(key) + value_len(value)
+    key_len(key) + value_len(&value.lent())
 }
 
 #[tactic(auto, unfolding(crate::specs::Fields::number))]
@@ -98,32 +99,32 @@ pub(crate) fn optional_op_len(op: &Option<Op>) -> usize
 }
 
 #[tactic(auto, unfolding(crate::specs::Fields::answer_bytes))]
-pub(crate) fn answer_len(answer: &Answer) -> usize
-    ensures len { result ≡ length (answer_bytes answer.now) }
+pub(crate) fn answer_len(answer: &AnswerRef<'_>) -> usize
+    ensures len { result ≡ length (answer_bytes (answer_lent answer.now)) }
     ensures bounded { result ≤ 122 }
-    ensures spelled { IsAnswer answer.now }
+    ensures spelled { IsAnswer (answer_lent answer.now) }
 {
     match answer {
-        Answer::Inserted
-        | Answer::Was(None)
-        | Answer::Exists
-        | Answer::NoRecord
-        | Answer::NotNumber => 1,
-        Answer::Added(amount) => 1 + amount_len(*amount),
-        Answer::Updated(value) | Answer::Was(Some(value)) | Answer::Deleted(value) => {
+        AnswerRef::Inserted
+        | AnswerRef::Was(None)
+        | AnswerRef::Exists
+        | AnswerRef::NoRecord
+        | AnswerRef::NotNumber => 1,
+        AnswerRef::Added(amount) => 1 + amount_len(*amount),
+        AnswerRef::Updated(value) | AnswerRef::Was(Some(value)) | AnswerRef::Deleted(value) => {
             1 + value_len(value)
         }
     }
 }
 
-pub(crate) fn optional_value_len(value: &Option<Value>) -> usize
-    ensures len { result ≡ length (optional text value.now) }
+pub(crate) fn optional_value_len(value: Option<&Value>) -> usize
+    ensures len { result ≡ length (optional text (option_copied value.entry)) }
     ensures bounded { result ≤ 122 }
-    ensures spelled { IfSome value.now IsValue }
+    ensures spelled { IfSome (option_copied value.entry) IsValue }
 {
     match value {
         None => 1,
-        Some(value) => 1 + value_len(value),
+        Some(value) => 1 + value_len(&value.lent()),
     }
 }
 
@@ -134,6 +135,6 @@ pub(crate) fn optional_answer_len(answer: &Option<Answer>) -> usize
 {
     match answer {
         None => 1,
-        Some(answer) => 1 + answer_len(answer),
+        Some(answer) => 1 + answer_len(&answer.lent()),
     }
 }

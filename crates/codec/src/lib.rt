@@ -26,6 +26,7 @@ mod request;
 mod row_list;
 mod row_reader;
 mod rows;
+mod spelled_answer;
 mod spelled_op;
 mod taken;
 mod undoing;
@@ -40,17 +41,18 @@ pub use image::{
 };
 pub use kept::kept_rows;
 pub use parted::{Asking, answered_at, asking_at, put_answered};
-pub use parted_reads::{Reading, found_at, reading_at};
+pub use parted_reads::{Reading, found_at, put_found, put_get, reading_at};
 pub use reading::NUMBER_LIMIT;
 pub use record::{
-    asked_op, left_to_undo, put_answer_record, put_op_record, put_record, read_record,
-    record_spelling_law, step_prev, step_txn, take_record,
+    asked_op, left_to_undo, put_op_record, put_record, read_record, record_spelling_law, step_prev,
+    step_txn, take_record,
 };
 pub use reply::{Reply, put_reply, reply_session, reply_spelling_law, take_reply};
 pub use request::{Request, put_request, request_spelling_law, take_request};
 pub use row_list::RowList;
 pub use row_reader::RowReader;
 pub use rows::Rows;
+pub use spelled_answer::{GivenAnswer, SpelledAnswer, put_given_answer};
 pub use spelled_op::{asked_bytes, put_perform};
 pub use taken::Taken;
 pub use undoing::{CompNumbers, put_undo};

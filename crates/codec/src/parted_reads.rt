@@ -1,17 +1,22 @@
 //! Requests to read one key and replies with its value, apart from the messages around them, as `parted` has it.
-ghost use Rattle.std.specs.Prelude.{◌≡◌, ◌++◌, ℕ, List, drop, IsSome, OnSome};
-ghost use Rattle.std.specs.Option.{option_map};
+ghost use Rattle.std.specs.Prelude.{◌≡◌, ◌+◌, ◌<◌, ◌≤◌, ◌++◌, ℕ, List, length, drop, vec_len, vec_capacity, IsSome, OnOk, OnErr, OnSome, IfErr};
+ghost use Rattle.std.specs.Option.{option_copied, option_map};
 ghost use Rattle.codec.specs.declared.request.Request.{Request};
+ghost use Rattle.codec.specs.declared.request.Request.TheVariants as asks;
 ghost use Rattle.codec.specs.declared.reply.Reply.{Reply};
+ghost use Rattle.codec.specs.declared.reply.Reply.TheVariants as says;
+ghost use Rattle.codec.specs.Fields.{IsNumber};
 ghost use Rattle.codec.specs.Frames.{frame};
 ghost use Rattle.codec.specs.Parted.{both, reading_of, found_of};
 ghost use Rattle.codec.specs.Replies.{reply_bytes, IsReply};
 ghost use Rattle.codec.specs.Requests.{request_bytes, IsRequest};
 
-use crate::frame::{left_at, take_body};
+use crate::frame::{HEADER_LEN, left_at, take_body};
+use crate::lengths::{key_len, optional_value_len};
 use crate::reading::{take_key, take_number, take_optional_value};
 use crate::taken::Taken;
-use record_key::{Key, Value};
+use crate::writing::{put_long_start, put_optional_value, put_text};
+use record_key::{Key, Refusal, Value};
 
 /// A request to read a key, without the key.
 #[derive(Debug, Clone, Copy, PartialEq, Eq)]
@@ -50,6 +55,25 @@ fn reading_in(body: &[u8], key: &mut Option<Key>) -> Option<Reading>
     Some(Reading { session, read })
 }
 
+/// Appends the frame of the request to read a key. Where memory for it is refused nothing is appended.
+#[tactic(auto, using(crate::proofs::Numbered::number_lengths))]
+pub fn put_get(out: &mut Vec<u8>, session: u64, read: u64, key: &Key) -> Result<(), Refusal>
+    requires numbers { IsNumber session × IsNumber read }
+    ensures spelling { OnOk result (out.new.items
+        ≡ out.old.items ++ frame (request_bytes (asks.Get session read key.now))) }
+    ensures has_spelling { IsRequest (asks.Get session read key.now) }
+    ensures refused { OnErr result (out.new.items ≡ out.old.items) }
+    ensures cause { IfErr result (λ refusal. refusal ≡ Refusal.NoMemory) }
+    ensures room { OnErr result (vec_capacity out.old < vec_len out.old + 264) }
+    ensures short { length (request_bytes (asks.Get session read key.now)) ≤ 256 }
+{
+    let length = 17 + key_len(key);
+    out.reserve(HEADER_LEN + length)?;
+    put_long_start(out, length, 3, session, read);
+    put_text(out, key.as_bytes());
+    Ok(())
+}
+
 /// The number of the read of a key that is replied to by the reply whose frame begins at a place; the value that was found
 /// is put in `value`. None where another reply's frame begins there; what `value` has then is not said. Takes no memory.
 pub fn found_at(bytes: &[u8], at: usize, value: &mut Option<Value>) -> Option<u64>
@@ -75,4 +99,28 @@ fn found_in(body: &[u8], value: &mut Option<Value>) -> Option<u64>
     let (read, rest) = take_number(left_at(rest, 8))?;
     take_optional_value(rest, value)?;
     Some(read)
+}
+
+/// Appends the frame of the reply that this value was found, if any. Where memory for it is refused nothing is appended.
+#[tactic(auto, using(crate::proofs::Numbered::number_lengths))]
+pub fn put_found(
+    out: &mut Vec<u8>,
+    session: u64,
+    read: u64,
+    value: Option<&Value>,
+) -> Result<(), Refusal>
+    requires numbers { IsNumber session × IsNumber read }
+    ensures spelling { OnOk result (out.new.items ≡ out.old.items
+        ++ frame (reply_bytes (says.Row session read (option_copied value.entry)))) }
+    ensures has_spelling { IsReply (says.Row session read (option_copied value.entry)) }
+    ensures refused { OnErr result (out.new.items ≡ out.old.items) }
+    ensures cause { IfErr result (λ refusal. refusal ≡ Refusal.NoMemory) }
+    ensures room { OnErr result (vec_capacity out.old < vec_len out.old + 264) }
+    ensures short { length (reply_bytes (says.Row session read (option_copied value.entry))) ≤ 256 }
+{
+    let length = 17 + optional_value_len(value);
+    out.reserve(HEADER_LEN + length)?;
+    put_long_start(out, length, 0x13, session, read);
+    put_optional_value(out, value);
+    Ok(())
 }

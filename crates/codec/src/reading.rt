@@ -1,9 +1,12 @@
-//! The readers of a frame's parts. Each gives the value at the front and the bytes after it. A large value is put in its
-//! place instead, since each hand-over of one is a copy.
+//! The readers of a frame's parts. Each gives the value at the front and the bytes after it. A large value is lent, or put
+//! in its place instead, since each hand-over of one is a copy.
+ghost use Rattle.std.specs.Prelude.{◌≡◌, Some};
+ghost use Rattle.std.specs.Option.{option_map};
+ghost use Rattle.record_key.specs.Lent.{op_on, answer_lent};
 ghost use Rattle.codec.specs.Reading.{Gives, mapped, number_at, count_at, bytes_at, key_at, value_at, row_at, flag_at, optional_at, op_at, answer_at};
 
 use byteorder::{BigEndian, ByteOrder};
-use record_key::{Answer, Key, Op, Value};
+use record_key::{AnswerRef, Change, Key, Op, Value, ValueRef};
 
 /// What each number is below that names something in a frame: a record, a transaction, a session, a read or a leaf. Counts and
 /// amounts have eight bytes.
@@ -56,11 +59,11 @@ pub(crate) fn take_key(bytes: &[u8]) -> Option<(Key, &[u8])>
 }
 
 #[tactic(auto, unfolding(crate::specs::Reading::value_at))]
-pub(crate) fn take_value(bytes: &[u8]) -> Option<(Value, &[u8])>
+pub(crate) fn take_value(bytes: &[u8]) -> Option<(ValueRef<'_>, &[u8])>
     ensures { Gives (λ x. (x.0, x.1.now)) result (value_at bytes.now) }
 {
     let (text, rest) = take_bytes(bytes)?;
-    Some((Value::new(text).ok()?, rest))
+    Some((ValueRef::new(text)?, rest))
 }
 
 /// A key, then a value.
@@ -69,47 +72,76 @@ pub(crate) fn take_row(bytes: &[u8]) -> Option<((Key, Value), &[u8])>
 {
     let (key, rest) = take_key(bytes)?;
     let (value, rest) = take_value(rest)?;
-    Some(((key, value), rest))
+    Some(((key, value.owned()), rest))
 }
 
+/// An operation: what it does to the record of its key, which is put in `key`.
 #[tactic(auto, unfolding(crate::specs::Reading::op_at))]
-pub(crate) fn take_op<'a>(bytes: &'a [u8], op: &mut Option<Op>) -> Option<&'a [u8]>
-    ensures { Gives (λ rest. (op.new, rest.now)) result (mapped (λ op. Some op) op_at bytes.now) }
+pub(crate) fn take_change<'a>(
+    bytes: &'a [u8],
+    key: &mut Option<Key>,
+) -> Option<(Change<'a>, &'a [u8])>
+    ensures { Gives (λ x. (option_map (λ k. op_on k x.0) key.new, x.1.now)) result
+        (mapped (λ op. Some op) op_at bytes.now) }
 {
     let (kind, rest) = bytes.split_first()?;
+    let (found, rest) = take_key(rest)?;
+    *key = Some(found);
     match *kind {
         1 => {
-            let ((key, value), rest) = take_row(rest)?;
-            *op = Some(Op::Insert(key, value));
-            Some(rest)
+            let (value, rest) = take_value(rest)?;
+            Some((Change::Insert(value), rest))
         }
         2 => {
-            let ((key, value), rest) = take_row(rest)?;
-            *op = Some(Op::Update(key, value));
-            Some(rest)
+            let (value, rest) = take_value(rest)?;
+            Some((Change::Update(value), rest))
         }
         3 => {
-            let ((key, value), rest) = take_row(rest)?;
-            *op = Some(Op::Upsert(key, value));
-            Some(rest)
+            let (value, rest) = take_value(rest)?;
+            Some((Change::Upsert(value), rest))
         }
-        4 => {
-            let (key, rest) = take_key(rest)?;
-            *op = Some(Op::Delete(key));
-            Some(rest)
-        }
+        4 => Some((Change::Delete, rest)),
         5 => {
-            let (key, rest) = take_key(rest)?;
             let (amount, rest) = take_count(rest)?;
-            *op = Some(Op::Add(key, amount));
-            Some(rest)
+            Some((Change::Add(amount), rest))
         }
         _ => None,
     }
 }
 
+/// Each kind is put in its place by itself: what the kinds come to together would be copied once more.
+pub(crate) fn take_op<'a>(bytes: &'a [u8], op: &mut Option<Op>) -> Option<&'a [u8]>
+    ensures { Gives (λ rest. (op.new, rest.now)) result (mapped (λ op. Some op) op_at bytes.now) }
+{
+    let mut key = None;
+    let (change, rest) = take_change(bytes, &mut key)?;
+    let key = key?;
+    match change {
+        Change::Insert(value) => {
+            *op = Some(Op::Insert(key, value.owned()));
+            Some(rest)
+        }
+        Change::Update(value) => {
+            *op = Some(Op::Update(key, value.owned()));
+            Some(rest)
+        }
+        Change::Upsert(value) => {
+            *op = Some(Op::Upsert(key, value.owned()));
+            Some(rest)
+        }
+        Change::Delete => {
+            *op = Some(Op::Delete(key));
+            Some(rest)
+        }
+        Change::Add(amount) => {
+            *op = Some(Op::Add(key, amount));
+            Some(rest)
+        }
+    }
+}
+
 #[tactic(auto, unfolding(crate::specs::Reading::flag_at))]
-fn take_flag(bytes: &[u8]) -> Option<(bool, &[u8])>
+pub(crate) fn take_flag(bytes: &[u8]) -> Option<(bool, &[u8])>
     ensures { Gives (λ x. (x.0, x.1.now)) result (flag_at bytes.now) }
 {
     let (flag, rest) = bytes.split_first()?;
@@ -143,67 +175,45 @@ pub(crate) fn take_optional_op<'a>(bytes: &'a [u8], op: &mut Option<Op>) -> Opti
 }
 
 #[tactic(auto, unfolding(crate::specs::Reading::answer_at))]
-pub(crate) fn take_answer<'a>(bytes: &'a [u8], answer: &mut Option<Answer>) -> Option<&'a [u8]>
-    ensures { Gives (λ rest. (answer.new, rest.now)) result (mapped (λ answer. Some answer) answer_at bytes.now) }
+pub(crate) fn take_answer(bytes: &[u8]) -> Option<(AnswerRef<'_>, &[u8])>
+    ensures { Gives (λ x. (answer_lent x.0, x.1.now)) result (answer_at bytes.now) }
 {
     let (kind, rest) = bytes.split_first()?;
     match *kind {
-        1 => {
-            *answer = Some(Answer::Inserted);
-            Some(rest)
-        }
+        1 => Some((AnswerRef::Inserted, rest)),
         2 => {
             let (value, rest) = take_value(rest)?;
-            *answer = Some(Answer::Updated(value));
-            Some(rest)
+            Some((AnswerRef::Updated(value), rest))
         }
-        3 => {
-            *answer = Some(Answer::Was(None));
-            Some(rest)
-        }
+        3 => Some((AnswerRef::Was(None), rest)),
         4 => {
             let (value, rest) = take_value(rest)?;
-            *answer = Some(Answer::Was(Some(value)));
-            Some(rest)
+            Some((AnswerRef::Was(Some(value)), rest))
         }
         5 => {
             let (value, rest) = take_value(rest)?;
-            *answer = Some(Answer::Deleted(value));
-            Some(rest)
+            Some((AnswerRef::Deleted(value), rest))
         }
-        6 => {
-            *answer = Some(Answer::Exists);
-            Some(rest)
-        }
-        7 => {
-            *answer = Some(Answer::NoRecord);
-            Some(rest)
-        }
-        8 => {
-            *answer = Some(Answer::NotNumber);
-            Some(rest)
-        }
+        6 => Some((AnswerRef::Exists, rest)),
+        7 => Some((AnswerRef::NoRecord, rest)),
+        8 => Some((AnswerRef::NotNumber, rest)),
         9 => {
             let (amount, rest) = take_count(rest)?;
-            *answer = Some(Answer::Added(amount));
-            Some(rest)
+            Some((AnswerRef::Added(amount), rest))
         }
         _ => None,
     }
 }
 
-pub(crate) fn take_optional_answer<'a>(
-    bytes: &'a [u8],
-    answer: &mut Option<Answer>,
-) -> Option<&'a [u8]>
-    ensures { Gives (λ rest. (answer.new, rest.now)) result (optional_at answer_at bytes.now) }
+pub(crate) fn take_optional_answer(bytes: &[u8]) -> Option<(Option<AnswerRef<'_>>, &[u8])>
+    ensures { Gives (λ x. (option_map answer_lent x.0, x.1.now)) result (optional_at answer_at bytes.now) }
 {
     let (is_there, rest) = take_flag(bytes)?;
     if !is_there {
-        *answer = None;
-        return Some(rest);
+        return Some((None, rest));
     }
-    take_answer(rest, answer)
+    let (answer, rest) = take_answer(rest)?;
+    Some((Some(answer), rest))
 }
 
 pub(crate) fn take_optional_value<'a>(
@@ -218,6 +228,6 @@ pub(crate) fn take_optional_value<'a>(
         return Some(rest);
     }
     let (found, rest) = take_value(rest)?;
-    *value = Some(found);
+    *value = Some(found.owned());
     Some(rest)
 }

@@ -7,6 +7,7 @@ ghost use Rattle.codec.specs.Frames.{frame, IfTaken, IfBad, IsThere, IsCut};
 ghost use Rattle.std.specs.List.{flat_map, AllByRecursion};
 ghost use Rattle.codec.specs.Writing.{HasRoom, Puts};
 ghost use Rattle.history.specs.Log.{request_of, step_of};
+ghost use Rattle.record_key.specs.Lent.{answer_lent};
 ghost use Rattle.history.specs.Chains.{undo_from, prev_in};
 ghost use Rattle.codec.specs.Reading.{Gives, pair, mapped, optional_at, byte_at, number_at, op_at, record_at, taken_at};
 
@@ -20,7 +21,7 @@ use crate::writing::{
     put_optional_op, put_start,
 };
 use history::Record;
-use record_key::{Answer, Op, Refusal};
+use record_key::{AnswerRef, Op, Refusal};
 use std::convert::Infallible;
 
 /// Appends the record's frame, its one spelling. Where memory for it is refused nothing is appended.
@@ -60,14 +61,19 @@ pub fn put_op_record(out: &mut Vec<u8>, txn: u64, prev: u64, op: &Op) -> Result<
 
 /// The same of an Answer record, whose answer is lent.
 #[tactic(auto, unfolding(crate::specs::Records::record_bytes), using(crate::proofs::Numbered::number_lengths))]
-pub fn put_answer_record(out: &mut Vec<u8>, of: u64, answer: &Answer) -> Result<(), Refusal>
-    requires { HasNumbers (is.Answer of answer.now) }
-    ensures spelling { OnOk result (out.new.items ≡ out.old.items ++ frame (record_bytes (is.Answer of answer.now))) }
+pub(crate) fn put_answer_record(
+    out: &mut Vec<u8>,
+    of: u64,
+    answer: &AnswerRef<'_>,
+) -> Result<(), Refusal>
+    requires { HasNumbers (is.Answer of (answer_lent answer.now)) }
+    ensures spelling { OnOk result (out.new.items
+        ≡ out.old.items ++ frame (record_bytes (is.Answer of (answer_lent answer.now)))) }
     ensures refused { OnErr result (out.new.items ≡ out.old.items) }
     ensures cause { IfErr result (λ refusal. refusal ≡ Refusal.NoMemory) }
     ensures room { OnErr result (vec_capacity out.old
-        < vec_len out.old + length (frame (record_bytes (is.Answer of answer.now)))) }
-    ensures has_spelling { IsRecord (is.Answer of answer.now) }
+        < vec_len out.old + length (frame (record_bytes (is.Answer of (answer_lent answer.now))))) }
+    ensures has_spelling { IsRecord (is.Answer of (answer_lent answer.now)) }
 {
     let length = 9 + answer_len(answer);
     out.reserve(HEADER_LEN + length)?;
@@ -203,7 +209,7 @@ fn body_len(record: &Record) -> usize
     match record {
         Record::Session | Record::Begin => 1,
         Record::Op { op, .. } => 17 + op_len(op),
-        Record::Answer { answer, .. } => 9 + answer_len(answer),
+        Record::Answer { answer, .. } => 9 + answer_len(&answer.lent()),
         Record::Comp { inverse, .. } => 25 + optional_op_len(inverse),
         Record::Commit { .. } | Record::End { .. } | Record::Checkpoint { .. } => 9,
     }
@@ -223,7 +229,7 @@ fn put_body(out: &mut Vec<u8>, record: &Record)
         }
         Record::Answer { of, answer } => {
             put_head(out, 4, *of);
-            put_answer(out, answer);
+            put_answer(out, &answer.lent());
         }
         Record::Comp {
             txn,
@@ -287,10 +293,11 @@ fn take_fields<'a>(bytes: &'a [u8], record: &mut Record) -> Option<&'a [u8]>
         }
         4 => {
             let (of, rest) = take_number(rest)?;
-            let mut answer = None;
-            let rest = take_answer(rest, &mut answer)?;
-            let answer = answer?;
-            *record = Record::Answer { of, answer };
+            let (answer, rest) = take_answer(rest)?;
+            *record = Record::Answer {
+                of,
+                answer: answer.owned(),
+            };
             Some(rest)
         }
         5 => take_comp(rest, record),

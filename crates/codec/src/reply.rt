@@ -1,5 +1,7 @@
 //! Replies of the data component to the transaction component.
 ghost use Rattle.std.specs.Prelude.{Some, false, ◌≡◌, ◌≢◌, ◌↔◌, ◌+◌, ◌<◌, ◌≤◌, ◌^◌, ◌++◌, ℕ, List, length, drop, vec_len, vec_capacity, slice_index, OnOk, OnErr, IfOk, IfErr, IsErrOf, IfSome, IfNone, OnSome};
+ghost use Rattle.std.specs.Option.{option_copied, option_map};
+ghost use Rattle.record_key.specs.Lent.{answer_lent};
 ghost use Rattle.codec.specs.declared.reply.Reply.{Reply};
 ghost use Rattle.codec.specs.Replies.{reply_bytes, session_of, has_rows, IsOrdered, IsReply};
 ghost use Rattle.codec.specs.Frames.{frame, any_length, IfTaken, IfBad, IsThere, IsCut, IsFrameOf, HasKind};
@@ -17,7 +19,7 @@ use crate::taken::Taken;
 use crate::writing::{
     put_head, put_long_head, put_number, put_optional_answer, put_optional_value,
 };
-use record_key::{Answer, Refusal, Value};
+use record_key::{Answer, AnswerRef, Refusal, Value};
 use std::alloc::{AllocError, Global};
 
 /// A reply to a request of the same session.
@@ -132,7 +134,7 @@ fn frame_len(reply: &Reply) -> Option<usize>
     match reply {
         Reply::Connected { .. } | Reply::RedoEnded { .. } => Some(17),
         Reply::Answered { answer, .. } => Some(25 + optional_answer_len(answer)),
-        Reply::Row { value, .. } => Some(25 + optional_value_len(value)),
+        Reply::Row { value, .. } => Some(25 + optional_value_len(value.as_ref())),
         Reply::Rows { rows, .. } => {
             let Some(len) = rows.spelled_len() else {
                 return None;
@@ -164,7 +166,7 @@ fn put_body(out: &mut Vec<u8>, reply: &Reply)
             value,
         } => {
             put_long_head(out, 0x13, *session, *read);
-            put_optional_value(out, value);
+            put_optional_value(out, value.as_ref());
         }
         Reply::Rows {
             session,
@@ -182,18 +184,27 @@ fn put_body(out: &mut Vec<u8>, reply: &Reply)
 /// The kind of a reply that has rows.
 pub(crate) const ROWS: u8 = 0x14;
 
+/// An answer of its own, if there is one.
+fn owned(answer: Option<&AnswerRef<'_>>) -> Option<Answer>
+    ensures { result ≡ option_map answer_lent (option_copied answer.entry) }
+{
+    match answer {
+        None => None,
+        Some(answer) => Some(answer.owned()),
+    }
+}
+
 fn take_answered<'a>(bytes: &'a [u8], reply: &mut Reply) -> Option<&'a [u8]>
     ensures { Gives (λ rest. (reply.new, rest.now)) result (mapped (λ p. Reply.Answered p.0 p.1.0 p.1.1)
         (pair number_at (pair number_at (optional_at answer_at))) bytes.now) }
 {
     let (session, rest) = take_number(bytes)?;
     let (number, rest) = take_number(rest)?;
-    let mut answer = None;
-    let rest = take_optional_answer(rest, &mut answer)?;
+    let (answer, rest) = take_optional_answer(rest)?;
     *reply = Reply::Answered {
         session,
         number,
-        answer,
+        answer: owned(answer.as_ref()),
     };
     Some(rest)
 }

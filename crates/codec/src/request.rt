@@ -9,8 +9,7 @@ ghost use Rattle.codec.specs.Reading.{Gives, pair, mapped, optional_at, number_a
 use crate::frame::{HEADER_LEN, take_framed};
 use crate::framed::Framed;
 use crate::lengths::{key_len, op_len, range_len};
-use crate::parted::take_asked;
-use crate::reading::{take_key, take_number, take_optional_key};
+use crate::reading::{take_key, take_number, take_op, take_optional_key};
 use crate::taken::Taken;
 use crate::writing::{put_head, put_long_head, put_number, put_op, put_optional_key, put_text};
 use record_key::{Key, Op, Refusal};
@@ -165,13 +164,16 @@ fn take_perform<'a>(bytes: &'a [u8], request: &mut Request) -> Option<&'a [u8]>
         (mapped (λ p. Request.Perform p.0 p.1.0 p.1.1.0 p.1.1.1)
         (pair number_at (pair number_at (pair number_at op_at))) bytes.now) }
 {
+    let (session, rest) = take_number(bytes)?;
+    let (number, rest) = take_number(rest)?;
+    let (stable, rest) = take_number(rest)?;
     let mut op = None;
-    let (asking, rest) = take_asked(bytes, &mut op)?;
+    let rest = take_op(rest, &mut op)?;
     let op = op?;
     *request = Request::Perform {
-        session: asking.session,
-        number: asking.number,
-        stable: asking.stable,
+        session,
+        number,
+        stable,
         op,
     };
     Some(rest)

@@ -1,11 +1,12 @@
 //! The writers of a frame's parts, at the end of a vector that has room for them.
 ghost use Rattle.codec.specs.Fields.{number, text, optional, op_bytes, answer_bytes};
 ghost use Rattle.codec.specs.Writing.{HasRoom, Puts};
+ghost use Rattle.record_key.specs.Lent.{answer_lent};
 ghost use Rattle.std.specs.Option.{option_copied};
 ghost use Rattle.std.specs.Prelude.{◌∷◌, [], ◌<◌, ◌++◌, length};
 
 use byteorder::{BigEndian, ByteOrder};
-use record_key::{Answer, Key, Op, Value};
+use record_key::{Answer, AnswerRef, Key, Op, Value};
 
 pub(crate) fn put_bytes(out: &mut Vec<u8>, bytes: &[u8])
     requires { HasRoom out.old bytes.now }
@@ -179,35 +180,35 @@ pub(crate) fn put_optional_op(out: &mut Vec<u8>, op: &Option<Op>)
 }
 
 #[tactic(auto, unfolding(crate::specs::Fields::answer_bytes))]
-pub(crate) fn put_answer(out: &mut Vec<u8>, answer: &Answer)
-    requires { HasRoom out.old (answer_bytes answer.now) }
-    ensures { Puts out.old out.new (answer_bytes answer.now) }
+pub(crate) fn put_answer(out: &mut Vec<u8>, answer: &AnswerRef<'_>)
+    requires { HasRoom out.old (answer_bytes (answer_lent answer.now)) }
+    ensures { Puts out.old out.new (answer_bytes (answer_lent answer.now)) }
 {
     match answer {
-        Answer::Inserted => put_byte(out, 1),
-        Answer::Updated(value) => {
+        AnswerRef::Inserted => put_byte(out, 1),
+        AnswerRef::Updated(value) => {
             put_byte(out, 2);
             put_text(out, value.as_bytes());
         }
-        Answer::Was(None) => put_byte(out, 3),
-        Answer::Was(Some(value)) => {
+        AnswerRef::Was(None) => put_byte(out, 3),
+        AnswerRef::Was(Some(value)) => {
             put_byte(out, 4);
             put_text(out, value.as_bytes());
         }
-        Answer::Deleted(value) => {
+        AnswerRef::Deleted(value) => {
             put_byte(out, 5);
             put_text(out, value.as_bytes());
         }
-        Answer::Exists => put_byte(out, 6),
-        Answer::NoRecord => put_byte(out, 7),
-        Answer::NotNumber => put_byte(out, 8),
-        Answer::Added(amount) => put_head(out, 9, *amount),
+        AnswerRef::Exists => put_byte(out, 6),
+        AnswerRef::NoRecord => put_byte(out, 7),
+        AnswerRef::NotNumber => put_byte(out, 8),
+        AnswerRef::Added(amount) => put_head(out, 9, *amount),
     }
 }
 
-pub(crate) fn put_optional_value(out: &mut Vec<u8>, value: &Option<Value>)
-    requires { HasRoom out.old (optional text value.now) }
-    ensures { Puts out.old out.new (optional text value.now) }
+pub(crate) fn put_optional_value(out: &mut Vec<u8>, value: Option<&Value>)
+    requires { HasRoom out.old (optional text (option_copied value)) }
+    ensures { Puts out.old out.new (optional text (option_copied value.entry)) }
 {
     match value {
         None => put_byte(out, 0),
@@ -226,7 +227,7 @@ pub(crate) fn put_optional_answer(out: &mut Vec<u8>, answer: &Option<Answer>)
         None => put_byte(out, 0),
         Some(answer) => {
             put_byte(out, 1);
-            put_answer(out, answer);
+            put_answer(out, &answer.lent());
         }
     }
 }

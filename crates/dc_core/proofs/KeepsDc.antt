@@ -5,7 +5,6 @@ use Rattle.std.specs.List.{AllByRecursion}
 use Rattle.std.proofs.lemmas.Bool.{or_left, or_right}
 use Rattle.record_key.proofs.Lists.{all_from}
 use Rattle.record_key.specs.declared.op.Op.{Op}
-use Rattle.record_key.specs.declared.op.Answer.{Answer}
 use Rattle.record_key.specs.Rows.{table_of}
 use Rattle.std.specs.FinMap as map
 use Rattle.record_key.specs.Table.{Bytes, Table, key_of, AreAdds, answer_in, after}
@@ -233,15 +232,11 @@ module _ (w : DcView) (n : ℕ) (o : Op) (k : IsDc w) (may : MayPerform w n o)
 
 -- ---- what performing leaves is that
 
-pub is_performed : (w : DcView) (n : ℕ) (o : Op) (a : Answer) (v : SystemView) (ps : List Performance)
-    → ps ≡ record { number = n; op = o; answer = a } ∷ w.performed
-    → a ≡ answer_in (leaf_at (leaves w) (key_of o)).rows o
+pub is_performed : (w : DcView) (n : ℕ) (o : Op) (v : SystemView) (ps : List Performance)
+    → ps ≡ record { number = n; op = o; answer = answer_in (leaf_at (leaves w) (key_of o)).rows o } ∷ w.performed
     → v ≡ record w.system { leaves = performed_at (leaves w) n o }
     → record w { system = v; performed = ps } ≡ performs w n o
-is_performed w n o a v ps noted answer left =
-    let listed : ps ≡ (performs w n o).performed =
-    noted ∙ ap (λ (b : Answer). record { number = n; op = o; answer = b } ∷ w.performed) answer in
-    λ i. record w { system = left i; performed = listed i }
+is_performed w n o v ps listed left = λ i. record w { system = left i; performed = listed i }
 
 -- ---- a component in which nothing was performed yet
 

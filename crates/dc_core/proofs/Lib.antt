@@ -9,3 +9,4 @@ pub mod Owed
 pub mod Recoverable
 pub mod Stored
 pub mod Walks
+mod Lifetimes

@@ -1,26 +1,27 @@
 -- What came of a request to perform whose operation was handed apart, as the reply to it.
-use Rattle.std.specs.Prelude.{Option, Some, None, Result, Ok, Err}
+use Rattle.std.specs.Prelude.{ℕ, Bool, true, false, List, ◌∷◌, Option, Some, None, Result, Ok, Err}
+use Rattle.record_key.specs.declared.op.Op.{Op}
 use Rattle.record_key.specs.declared.op.Answer.{Answer}
 use Rattle.record_key.specs.declared.refusal.Refusal.{Refusal}
-use Rattle.page.specs.declared.leaf.Done.{Done}
-use Rattle.page.specs.declared.leaf.Done.TheVariants.{Performed, Repeated}
 use Rattle.codec.specs.declared.parted.Asking.{Asking}
 use Rattle.codec.specs.declared.reply.Reply.{Reply}
 use Rattle.codec.specs.declared.reply.Reply.TheVariants as says
+use Rattle.dc_core.specs.declared.performance.Performance.{Performance}
 
--- the answer, if it is still kept
-abbrev pub answer_if_kept : Done → Option Answer
-answer_if_kept (Performed a) = Some a
-answer_if_kept (Repeated a) = a
+-- the reply with this answer, which is none where it is no longer kept
+abbrev pub reply_with : Asking → Option Answer → Reply
+reply_with q a = says.Answered q.session q.number a
 
-abbrev pub reply_with : Asking → Done → Reply
-reply_with q done = says.Answered q.session q.number (answer_if_kept done)
+abbrev pub replied : {A : Type 0} → Asking → Result A Refusal → Option Answer → Result (Option Reply) Refusal
+replied q (Ok done) a = Ok (Some (reply_with q a))
+replied q (Err r) a = Err r
 
-abbrev pub replied : Asking → Result Done Refusal → Result (Option Reply) Refusal
-replied q (Ok done) = Ok (Some (reply_with q done))
-replied q (Err r) = Err r
+-- the reply, where there is one
+abbrev pub reply_if : Asking → Bool → Option Answer → Option Reply
+reply_if q true a = Some (reply_with q a)
+reply_if q false a = None
 
--- the reply, where it was performed
-abbrev pub reply_if : Asking → Result Done Refusal → Option Reply
-reply_if q (Ok done) = Some (reply_with q done)
-reply_if q (Err r) = None
+-- these performances, and a newer one where it was told an answer
+abbrev pub also_told : ℕ → Op → Option Answer → List Performance → List Performance
+also_told n o (Some a) ps = record { number = n; op = o; answer = a } ∷ ps
+also_told n o None ps = ps

@@ -1,5 +1,5 @@
 //! The data component.
-ghost use Rattle.std.specs.Prelude.{◌≡◌, ◌<◌, ◌≤◌, ◌↔◌, ◌++◌, [], true, None, Some, length, get_or, IsTrue, IfOk, IfErr, OnOk};
+ghost use Rattle.std.specs.Prelude.{◌≡◌, ◌<◌, ◌≤◌, ◌↔◌, ◌++◌, [], true, None, Some, length, get_or, IsTrue, IfOk, IfErr, OnOk, OnErr};
 ghost use Rattle.std.specs.FinMap as map;
 ghost use Rattle.stable.specs.Crash.{BeginsWith};
 ghost use Rattle.stable.specs.Usage.{called_often};
@@ -10,6 +10,7 @@ ghost use Rattle.system_txn.specs.Recovering.{Recovers, RefusesRecovery};
 ghost use Rattle.system_txn.specs.Uses.{StopsOpening, log_calls, page_calls};
 ghost use Rattle.dc_core.specs.Restarting.{restarted};
 ghost use Rattle.codec.specs.Parted.{request_to};
+ghost use Rattle.record_key.specs.Lent.{op_lent};
 ghost use Rattle.codec.specs.Requests.{HasRequestNumbers};
 ghost use Rattle.page.specs.Leaf.{first};
 ghost use Rattle.btree.specs.Leaves.{all_rows};
@@ -23,8 +24,8 @@ ghost use Rattle.dc_core.specs.Kept.{IsDc};
 
 use crate::parts::Parts;
 use codec::{Asking, Reply, Request};
-use page::{Done, Leaf};
-use record_key::{Key, Op, Refusal, Value};
+use page::{AnswerSink, Leaf};
+use record_key::{Key, OpRef, Refusal, Value};
 use stable::{CrashLog, CrashPages, LogDevice, MemLog, MemPages, PageDevice};
 use std::alloc::Global;
 use std::marker::Model;
@@ -161,15 +162,24 @@ impl<D: LogDevice, P: PageDevice> Dc<D, P> {
         self.parts.in_session(session)
     }
 
-    /// What `serve_allowed` does of a request to perform, for a caller that has its operation apart. What came of it is
-    /// left in `done`.
-    pub fn perform(&mut self, asking: Asking, op: &Op, done: &mut Result<Done, Refusal>)
+    /// What `serve_allowed` does of a request to perform, for a caller that has its operation apart and a sink for the
+    /// answer.
+    pub fn perform<S: AnswerSink>(
+        &mut self,
+        asking: Asking,
+        op: &OpRef<'_>,
+        sink: &mut S,
+    ) -> Result<(), Refusal>
         requires allowed { session_refusal self.old asking.session ≡ None }
-        requires numbers { HasRequestNumbers (request_to asking op.now) }
-        requires owed { MayAsk self.old (request_to asking op.now) }
-        ensures gives { ServeGives self.old (request_to asking op.now) (replied asking done.new) self.new }
+        requires numbers { HasRequestNumbers (request_to asking (op_lent op.now)) }
+        requires owed { MayAsk self.old (request_to asking (op_lent op.now)) }
+        requires may_take { S.may_take sink.old asking.session asking.number }
+        ensures gives { ServeGives self.old (request_to asking (op_lent op.now))
+            (replied asking result (S.told sink.new)) self.new }
+        ensures given { OnOk result (S.takes sink.old asking.session asking.number (S.told sink.new) sink.new) }
+        ensures untold { OnErr result (sink.new ≡ sink.old) }
     {
-        self.parts.perform_asked(asking, op, done);
+        self.parts.perform_asked(asking, op, sink)
     }
 
     /// What a read of this key by this session finds, apart from the reply. Refused as `allows` says of a Get.

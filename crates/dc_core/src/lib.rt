@@ -23,5 +23,4 @@ mod tending;
 
 pub use dc::Dc;
 pub use performance::Performance;
-pub use performing::answer_of;
 pub use system_txn::{Device, Devices, Neighbours, Refused, Tended};

@@ -1,9 +1,11 @@
 //! What was performed, which contracts alone see.
-ghost use Rattle.std.specs.Prelude.{◌≡◌, [], ◌∷◌};
+ghost use Rattle.std.specs.Prelude.{◌≡◌, []};
+ghost use Rattle.record_key.specs.Lent.{op_lent};
 
 use crate::performance::Performance;
 use ghost_list::GhostList;
-use record_key::{Answer, Op};
+use page::AnswerSink;
+use record_key::OpRef;
 
 /// A list of performances, the newest first. It has no bytes.
 #[derive(Drop)]
@@ -12,6 +14,7 @@ pub struct Performances {
 }
 
 impl Performances {
+    ghost use Rattle.dc_core.specs.Performing.{also_told};
     ghost use Rattle.dc_core.specs.Serves.{kept_to};
 
     /// Nothing was performed.
@@ -23,12 +26,12 @@ impl Performances {
         }
     }
 
-    /// These and a newer one.
-    pub fn with(&self, number: u64, op: &Op, answer: &Answer) -> Performances
-        ensures { result.list.items ≡ record { number = number; op = op.now; answer = answer.now } ∷ self.now.list.items }
+    /// These and a newer one, whose answer the sink was told.
+    pub fn with<S: AnswerSink>(&self, number: u64, op: &OpRef<'_>, sink: &S) -> Performances
+        ensures { result.list.items ≡ also_told number (op_lent op.now) (S.told sink.now) self.now.list.items }
     {
         Performances {
-            list: GhostList::picked(number, &self.list, op, answer),
+            list: GhostList::picked(number, &self.list, op, sink),
         }
     }
 

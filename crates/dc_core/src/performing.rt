@@ -1,39 +1,47 @@
 //! Numbers that are sent once and again.
-ghost use Rattle.std.specs.Prelude.{◌≡◌, ◌<◌, ◌^◌, true, IsOk, IfOk, IfErr, OnErr};
-ghost use Rattle.std.specs.Option.{option_copied};
+ghost use Rattle.std.specs.Prelude.{◌≡◌, ◌<◌, ◌^◌, true, IsOk, IfErr, OnOk, OnErr};
+ghost use Rattle.record_key.specs.Lent.{op_lent};
 ghost use Rattle.record_key.specs.Table.{key_of};
 ghost use Rattle.dc_core.specs.DcView.{captures_at};
 ghost use Rattle.dc_core.specs.Serves.{MayPerform};
 ghost use Rattle.dc_core.specs.Kept.{IsDc};
-ghost use Rattle.dc_core.specs.Performing.{answer_if_kept};
 ghost use Rattle.dc_core.specs.Seen.{seen, Answers};
 
 use crate::parts::Parts;
-use page::Done;
-use record_key::{Answer, Key, Op, Refusal};
+use page::{AnswerSink, Done};
+use record_key::{Key, OpRef, Refusal};
 use stable::{LogDevice, PageDevice};
 
 impl<D: LogDevice, P: PageDevice> Parts<D, P> {
-    /// Performs a new number, or answers a repeated one, by one descent to the leaf. What came of it is left in `done`,
-    /// since an answer is copied at each hand-over.
-    pub fn perform(&mut self, number: u64, op: &Op, done: &mut Result<Done, Refusal>)
+    /// Performs a new number, or answers a repeated one, by one descent to the leaf. The answer goes into the sink.
+    pub fn perform<S: AnswerSink>(
+        &mut self,
+        number: u64,
+        op: &OpRef<'_>,
+        asker: u64,
+        sink: &mut S,
+    ) -> Result<(), Refusal>
         requires kept { IsDc (seen self.old) }
         requires numbered { number < 2 ^ 48 }
-        requires may { MayPerform (seen self.old) number op.now }
+        requires may { MayPerform (seen self.old) number (op_lent op.now) }
+        requires may_take { S.may_take sink.old asker number }
         ensures kept { IsDc (seen self.new) }
-        ensures answered { IfOk done.new (λ done. Answers (seen self.old) number op.now (answer_if_kept done) (seen self.new)) }
-        ensures refused { IfErr done.new (λ refusal. refusal ≡ Refusal.NoMemory) }
-        ensures memory { captures_at (seen self.old) (key_of op.now) number ≡ true → IsOk done.new }
-        ensures unchanged { OnErr done.new (seen self.new ≡ seen self.old) }
+        ensures answered { OnOk result (Answers (seen self.old) number (op_lent op.now) (S.told sink.new)
+            (seen self.new)) }
+        ensures given { OnOk result (S.takes sink.old asker number (S.told sink.new) sink.new) }
+        ensures refused { IfErr result (λ refusal. refusal ≡ Refusal.NoMemory) }
+        ensures memory { captures_at (seen self.old) (key_of (op_lent op.now)) number ≡ true → IsOk result }
+        ensures unchanged { OnErr result (seen self.new ≡ seen self.old) }
+        ensures untold { OnErr result (sink.new ≡ sink.old) }
     {
-        *done = self.system.perform(number, op);
-        match done {
-            Ok(Done::Performed(answer)) => {
+        match self.system.perform(number, op, asker, sink)? {
+            Done::Performed => {
                 self.system.kept();
-                self.performed = self.performed.with(number, op, answer);
+                self.performed = self.performed.with(number, op, sink);
             }
-            Ok(Done::Repeated(_)) | Err(_) => {}
+            Done::Repeated => {}
         }
+        Ok(())
     }
 
     /// Whether the leaf of the key has captured the number.
@@ -42,25 +50,5 @@ impl<D: LogDevice, P: PageDevice> Parts<D, P> {
     {
         let place = self.system.place_of(key);
         self.system.leaf(place).captures(number)
-    }
-}
-
-/// The answer that an operation was given, if it is still kept.
-pub fn answer_of(done: &Done) -> Option<&Answer>
-    ensures { option_copied result ≡ answer_if_kept done.now }
-{
-    match done {
-        Done::Performed(answer) => Some(answer),
-        Done::Repeated(answer) => answer.as_ref(),
-    }
-}
-
-/// The same of one that is handed over.
-pub fn into_answer(done: Done) -> Option<Answer>
-    ensures { result ≡ answer_if_kept done }
-{
-    match done {
-        Done::Performed(answer) => Some(answer),
-        Done::Repeated(answer) => answer,
     }
 }

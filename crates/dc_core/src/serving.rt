@@ -1,5 +1,6 @@
 //! What each kind of request does to the parts.
-ghost use Rattle.std.specs.Prelude.{◌≡◌, Some, None, IfOk, IfErr};
+ghost use Rattle.std.specs.Prelude.{◌≡◌, Some, None, IfOk, IfErr, OnOk, OnErr};
+ghost use Rattle.record_key.specs.Lent.{op_lent};
 ghost use Rattle.codec.specs.Parted.{request_to};
 ghost use Rattle.codec.specs.Requests.{HasRequestNumbers};
 ghost use Rattle.dc_core.specs.DcView.{leaves};
@@ -9,10 +10,9 @@ ghost use Rattle.dc_core.specs.Kept.{IsDc};
 ghost use Rattle.dc_core.specs.Seen.{seen};
 
 use crate::parts::Parts;
-use crate::performing::into_answer;
 use codec::{Asking, Reply, Request};
-use page::Done;
-use record_key::{Op, Refusal};
+use page::AnswerSink;
+use record_key::{Op, OpRef, Refusal};
 use stable::{LogDevice, PageDevice};
 
 impl<D: LogDevice, P: PageDevice> Parts<D, P> {
@@ -83,33 +83,39 @@ impl<D: LogDevice, P: PageDevice> Parts<D, P> {
         ensures stopped { IfErr result (λ refusal. Stops (seen self.old) (request_to asking op.now) refusal
             (seen self.new)) }
     {
-        let mut done = Err(Refusal::NoMemory);
-        self.perform_asked(asking, op, &mut done);
-        match done {
-            Ok(done) => Ok(Reply::Answered {
+        let mut answer = None;
+        match self.perform_asked(asking, &op.lent(), &mut answer) {
+            Ok(()) => Ok(Reply::Answered {
                 session: asking.session,
                 number: asking.number,
-                answer: into_answer(done),
+                answer,
             }),
             Err(refusal) => Err(refusal),
         }
     }
 
-    /// Performs what an allowed request asks, whose operation is handed apart. What came of it is left in `done`.
-    pub fn perform_asked(&mut self, asking: Asking, op: &Op, done: &mut Result<Done, Refusal>)
+    /// Performs what an allowed request asks, whose operation is handed apart. The answer goes into the sink.
+    pub fn perform_asked<S: AnswerSink>(
+        &mut self,
+        asking: Asking,
+        op: &OpRef<'_>,
+        sink: &mut S,
+    ) -> Result<(), Refusal>
         requires kept { IsDc (seen self.old) }
         requires allowed { session_refusal (seen self.old) asking.session ≡ None }
-        requires numbers { HasRequestNumbers (request_to asking op.now) }
-        requires owed { MayAsk (seen self.old) (request_to asking op.now) }
+        requires numbers { HasRequestNumbers (request_to asking (op_lent op.now)) }
+        requires owed { MayAsk (seen self.old) (request_to asking (op_lent op.now)) }
+        requires may_take { S.may_take sink.old asking.session asking.number }
         ensures kept { IsDc (seen self.new) }
-        ensures served { IfOk done.new (λ done. Serves (seen self.old) (request_to asking op.now)
-            (Some (reply_with asking done)) (seen self.new)) }
-        ensures stopped { IfErr done.new (λ refusal. Stops (seen self.old) (request_to asking op.now) refusal
+        ensures served { OnOk result (Serves (seen self.old) (request_to asking (op_lent op.now))
+            (Some (reply_with asking (S.told sink.new))) (seen self.new)) }
+        ensures given { OnOk result (S.takes sink.old asking.session asking.number (S.told sink.new) sink.new) }
+        ensures stopped { IfErr result (λ refusal. Stops (seen self.old) (request_to asking (op_lent op.now)) refusal
             (seen self.new)) }
+        ensures untold { OnErr result (sink.new ≡ sink.old) }
     {
-        self.perform(asking.number, op, done);
-        if done.is_ok() {
-            self.learn(asking.stable);
-        }
+        self.perform(asking.number, op, asking.session, sink)?;
+        self.learn(asking.stable);
+        Ok(())
     }
 }

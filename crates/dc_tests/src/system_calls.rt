@@ -4,11 +4,14 @@ use btree::LeafList;
 use call_lines::{Digest, Text, UNREADABLE, Words};
 use codec::NUMBER_LIMIT;
 use page::{Done, Leaf};
-use record_key::{Key, Op, Refusal};
+use record_key::{Answer, Key, Op, Refusal};
 use stable::{MemLog, MemPages};
 use system_txn::{Neighbours, SystemTxns, Tended};
 
 pub type System = SystemTxns<LeafList, MemLog, MemPages>;
+
+/// What a request came to, and its answer where that is still kept.
+type Outcome = (Done, Option<Answer>);
 
 pub fn call_of(
     system: &mut System,
@@ -19,7 +22,7 @@ pub fn call_of(
     match name {
         "perform" => {
             let number = number_of(words)?;
-            put_done(answer, &perform(system, number, &words.op()?)?);
+            put_outcome(answer, &perform(system, number, &words.op()?)?);
         }
         "split" => {
             let key = words.key()?;
@@ -78,8 +81,10 @@ fn number_of(words: &mut Words) -> Result<u64, Refusal> {
 
 // Each of these drops what its call promises, so that what calls it is checked soon.
 
-fn perform(system: &mut System, number: u64, op: &Op) -> Result<Done, Refusal> {
-    system.perform(number % NUMBER_LIMIT, op)
+fn perform(system: &mut System, number: u64, op: &Op) -> Result<Outcome, Refusal> {
+    let mut answer = None;
+    let done = system.perform(number % NUMBER_LIMIT, &op.lent(), 0, &mut answer)?;
+    Ok((done, answer))
 }
 
 fn split(system: &mut System, key: &Key, known: u64) -> Result<Neighbours, Refusal> {
@@ -118,14 +123,14 @@ fn leaf_at(system: &System, place: usize) -> Result<&Leaf, Refusal> {
     }
 }
 
-fn put_done(answer: &mut Text, done: &Done) {
-    match done {
-        Done::Performed(what) => answer.put_answer(what),
-        Done::Repeated(Some(saved)) => {
-            answer.put("again");
-            answer.put_answer(saved);
-        }
-        Done::Repeated(None) => answer.put("again -"),
+fn put_outcome(text: &mut Text, outcome: &Outcome) {
+    let (done, answer) = outcome;
+    if *done == Done::Repeated {
+        text.put("again");
+    }
+    match answer {
+        Some(answer) => text.put_answer(answer),
+        None => text.put("-"),
     }
 }
 

@@ -2,11 +2,16 @@
 use btree::{LeafSet, merge_at, one_leaf, split_at};
 use call_lines::Tally;
 use page::Done;
-use record_key::{Key, Op, Refusal, Value};
+use record_key::{Answer, Key, Op, Refusal, Value};
 use std::alloc::Global;
 
-pub fn perform<L: LeafSet>(leaves: &mut L, number: u64, op: &Op) -> Result<Done, Refusal> {
-    leaves.perform(number, op)
+/// What a request came to, and its answer where that is still kept.
+pub type Outcome = (Done, Option<Answer>);
+
+pub fn perform<L: LeafSet>(leaves: &mut L, number: u64, op: &Op) -> Result<Outcome, Refusal> {
+    let mut answer = None;
+    let done = leaves.perform(number, &op.lent(), 0, &mut answer)?;
+    Ok((done, answer))
 }
 
 pub fn get<'a, L: LeafSet>(leaves: &'a L, key: &Key) -> Option<&'a Value> {

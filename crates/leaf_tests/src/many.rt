@@ -1,6 +1,6 @@
 //! The calls that lines spell, on many leaves.
 use crate::calls;
-use crate::shown::{add_leaf, put_done, put_leaf};
+use crate::shown::{add_leaf, put_leaf, put_outcome};
 use btree::{LeafSet, one_leaf};
 use call_lines::{Digest, Fault, Subject, Text, UNREADABLE, Words};
 use record_key::Refusal;
@@ -29,7 +29,7 @@ fn change<L: LeafSet>(
     match name {
         "perform" => {
             let number = words.number()?;
-            put_done(answer, &calls::perform(leaves, number, &words.op()?)?);
+            put_outcome(answer, &calls::perform(leaves, number, &words.op()?)?);
             Ok(())
         }
         "split" => {

@@ -1,11 +1,10 @@
 //! Leaves beside a plain slow program, over calls in a fixed mixed order.
-use crate::calls;
+use crate::calls::{self, Outcome};
 use crate::ops::{key_of, op_of};
 use crate::plain_leaves::PlainLeaves;
 use crate::same::are_plain;
 use btree::LeafSet;
 use call_lines::{Tally, next};
-use page::Done;
 use record_key::{Key, Op, Refusal, Value};
 
 /// So many calls of both, compared after each; at some time there are more than four leaves.
@@ -93,7 +92,7 @@ fn performed_again<L: LeafSet>(
     number: u64,
     op: &Op,
     tally: &mut Tally,
-) -> Result<Done, Refusal> {
+) -> Result<Outcome, Refusal> {
     match calls::perform(leaves, number, op) {
         Err(Refusal::NoMemory) if are_plain(leaves, plain) => {
             tally.count_memory();

@@ -1,4 +1,5 @@
 //! A slow program that can't be wrong, to compare leaves with.
+use crate::calls::Outcome;
 use page::Done;
 use record_key::{Answer, Key, Op, PlainTable, Refusal, Value};
 use std::alloc::Global;
@@ -23,19 +24,19 @@ impl PlainLeaves {
     }
 
     /// A refused one changes nothing.
-    pub fn perform(&mut self, number: u64, op: &Op) -> Result<Done, Refusal> {
+    pub fn perform(&mut self, number: u64, op: &Op) -> Result<Outcome, Refusal> {
         if number <= self.low {
-            return Ok(Done::Repeated(None));
+            return Ok((Done::Repeated, None));
         }
         for (earlier, answer) in &self.answers {
             if *earlier == number {
-                return Ok(Done::Repeated(Some(answer.copied())));
+                return Ok((Done::Repeated, Some(answer.copied())));
             }
         }
         self.answers.reserve(1)?;
         let answer = self.table.apply(op)?;
         self.answers.push((number, answer.copied()))?;
-        Ok(Done::Performed(answer))
+        Ok((Done::Performed, Some(answer)))
     }
 
     pub fn raise(&mut self, low: u64) {

@@ -1,4 +1,5 @@
 //! What is seen of a leaf, and what a request came to, as text.
+use crate::calls::Outcome;
 use call_lines::{Digest, Text};
 use page::{Done, Leaf};
 use record_key::Key;
@@ -32,16 +33,14 @@ fn put_set(text: &mut Text, leaf: &Leaf) {
 }
 
 /// The answer; behind `again` the saved one of a repeated number, a bar where none is kept.
-pub fn put_done(text: &mut Text, done: &Done) {
-    match done {
-        Done::Performed(answer) => text.put_answer(answer),
-        Done::Repeated(saved) => {
-            text.put("again");
-            match saved {
-                Some(answer) => text.put_answer(answer),
-                None => text.put("-"),
-            }
-        }
+pub fn put_outcome(text: &mut Text, outcome: &Outcome) {
+    let (done, answer) = outcome;
+    if *done == Done::Repeated {
+        text.put("again");
+    }
+    match answer {
+        Some(answer) => text.put_answer(answer),
+        None => text.put("-"),
     }
 }
 

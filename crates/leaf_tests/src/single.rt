@@ -1,7 +1,8 @@
 //! The calls that lines spell, on one leaf and the one that is cut off it.
-use crate::shown::{add_leaf, put_done, put_leaf};
+use crate::calls::Outcome;
+use crate::shown::{add_leaf, put_leaf, put_outcome};
 use call_lines::{Digest, Fault, Subject, Text, UNREADABLE, Words};
-use page::{Done, Leaf};
+use page::Leaf;
 use record_key::{Op, Refusal};
 use std::alloc::Global;
 
@@ -24,8 +25,8 @@ impl Single {
     /// `perform N OP`.
     fn perform(&mut self, words: &mut Words, answer: &mut Text) -> Result<(), Refusal> {
         let number = words.number()?;
-        let done = on_whole(&mut self.leaf, number, &words.op()?)?;
-        put_done(answer, &done);
+        let outcome = on_whole(&mut self.leaf, number, &words.op()?)?;
+        put_outcome(answer, &outcome);
         Ok(())
     }
 
@@ -66,11 +67,13 @@ impl Single {
 }
 
 /// Performs on a leaf without fences.
-fn on_whole(leaf: &mut Leaf, number: u64, op: &Op) -> Result<Done, Refusal> {
+fn on_whole(leaf: &mut Leaf, number: u64, op: &Op) -> Result<Outcome, Refusal> {
     if leaf.low_fence().is_some() || leaf.high_fence().is_some() {
         return Err(Refusal::NotNow);
     }
-    leaf.perform(number, op)
+    let mut answer = None;
+    let done = leaf.perform(number, &op.lent(), 0, &mut answer)?;
+    Ok((done, answer))
 }
 
 impl Subject for Single {

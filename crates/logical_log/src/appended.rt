@@ -8,17 +8,24 @@ ghost use Rattle.logical_log.specs.NotSession.{last_with as with_this};
 
 use crate::not_session::last_with;
 use crate::note::asks;
-use codec::{put_answer_record, put_op_record, put_record};
+use codec::{GivenAnswer, put_given_answer, put_op_record, put_record};
 use history::Record;
-use record_key::{Answer, Op, Refusal};
+use record_key::{Op, Refusal};
 use std::alloc::Global;
 
 /// A record, or the parts of one.
 #[derive(Clone, Copy)]
 pub(crate) enum Appended<'a> {
     Whole(&'a Record),
-    Op { txn: u64, prev: u64, op: &'a Op },
-    Answer { of: u64, answer: &'a Answer },
+    Op {
+        txn: u64,
+        prev: u64,
+        op: &'a Op,
+    },
+    Answer {
+        of: u64,
+        answer: &'a GivenAnswer<'a>,
+    },
 }
 
 impl<'a> Appended<'a> {
@@ -34,7 +41,7 @@ impl<'a> Appended<'a> {
         match self {
             Appended::Whole(record) => put_record(out, record),
             Appended::Op { txn, prev, op } => put_op_record(out, *txn, *prev, op),
-            Appended::Answer { of, answer } => put_answer_record(out, *of, answer),
+            Appended::Answer { of, answer } => put_given_answer(out, *of, answer),
         }
     }
 

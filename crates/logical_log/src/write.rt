@@ -10,6 +10,7 @@ ghost use Rattle.inverse.specs.Inverse.{inverse_of};
 ghost use Rattle.record_key.specs.declared.op.Op.{Op as OpValue};
 ghost use Rattle.record_key.specs.declared.op.Answer.{Answer as AnswerValue};
 ghost use Rattle.record_key.specs.FirstCause.{MayRefuse};
+ghost use Rattle.codec.specs.Given.{answer_given};
 ghost use Rattle.stable.specs.Usage.{is_due, called};
 ghost use Rattle.logical_log.specs.LogView.{Appends, spent_refusal, after_refusal, usage_after};
 ghost use Rattle.logical_log.specs.Undoing.{comp_at, IsToldOf};
@@ -17,10 +18,10 @@ ghost use Rattle.logical_log.specs.Undoing.{comp_at, IsToldOf};
 use crate::appended::Appended;
 use crate::compensated::Compensated;
 use crate::log::Log;
-use codec::{CompNumbers, put_undo};
+use codec::{CompNumbers, GivenAnswer, put_undo};
 use framed_log::refusal_of;
 use history::Record;
-use record_key::{Answer, Op, Refusal};
+use record_key::{Op, Refusal};
 use stable::LogDevice;
 
 /// The greatest number that a record may have.
@@ -53,10 +54,11 @@ impl<D: LogDevice> Log<D> {
     }
 
     /// The same of an Answer record, whose answer is lent.
-    pub fn append_answer(&mut self, of: u64, answer: &Answer) -> Result<u64, Refusal>
-        requires fits { Fits self.old.records (is.Answer of answer.now) }
-        requires numbers { HasNumbers (is.Answer of answer.now) }
-        ensures appended { IfOk result (λ number. Appends self.old (is.Answer of answer.now) number self.new) }
+    pub fn append_answer(&mut self, of: u64, answer: &GivenAnswer<'_>) -> Result<u64, Refusal>
+        requires fits { Fits self.old.records (is.Answer of (answer_given answer.now)) }
+        requires numbers { HasNumbers (is.Answer of (answer_given answer.now)) }
+        ensures appended { IfOk result (λ number.
+            Appends self.old (is.Answer of (answer_given answer.now)) number self.new) }
         ensures refused { IfErr result (MayRefuse (spent_refusal self.old.records)) }
         ensures device { IsErrOf result Refusal.Device → IsTrue (is_due self.old.usage) }
         ensures left { IfErr result (λ refusal. self.new ≡ after_refusal self.old refusal) }

@@ -1,5 +1,6 @@
 //! The calls of the data component, and the requests that reach it.
-ghost use Rattle.std.specs.Prelude.{◌≡◌, false, None, Some, Err};
+ghost use Rattle.std.specs.Prelude.{◌≡◌, true, false, None, Some, OnSome};
+ghost use Rattle.record_key.specs.Lent.{op_lent};
 ghost use Rattle.codec.specs.Parted.{request_to};
 ghost use Rattle.codec.specs.Requests.{HasRequestNumbers};
 ghost use Rattle.dc_core.specs.Performing.{reply_if};
@@ -15,8 +16,8 @@ use crate::tc_events::number_if;
 use codec::{Asking, Reply, Request};
 use dc_core::{Device, Tended};
 use node_laws::{Event, Out};
-use page::Done;
-use record_key::{Key, Op, Refusal};
+use page::AnswerSink;
+use record_key::{Key, OpRef, Refusal};
 use stable::{CrashLog, CrashPages};
 use std::alloc::Global;
 
@@ -112,36 +113,45 @@ impl<D: CrashLog, P: CrashPages> DataComponent<D, P> {
         }
     }
 
-    /// The same of a request to perform, whose operation is apart. What came of it is left in `done`.
-    pub fn perform(
+    /// The same of a request to perform, whose operation is apart. The answer goes into the sink, which is the reply; whether
+    /// there is one.
+    pub fn perform<S: AnswerSink>(
         &mut self,
         asking: Asking,
-        op: &Op,
+        op: &OpRef<'_>,
         next: Option<u64>,
-        done: &mut Result<Done, Refusal>,
+        sink: &mut S,
         out: &mut Out,
-    )
-        requires numbers { HasRequestNumbers (request_to asking op.now) }
-        requires owed { MayAsk (dc_of self.old).dc (request_to asking op.now) }
-        ensures { DcServes (dc_of self.old) next (Some (request_to asking op.now)) out.new
-            (reply_if asking done.new) (dc_of self.new) }
+    ) -> bool
+        requires numbers { HasRequestNumbers (request_to asking (op_lent op.now)) }
+        requires owed { MayAsk (dc_of self.old).dc (request_to asking (op_lent op.now)) }
+        requires may_take { OnSome next (S.may_take sink.old asking.session asking.number) }
+        ensures serves { DcServes (dc_of self.old) next (Some (request_to asking (op_lent op.now))) out.new
+            (reply_if asking result (S.told sink.new)) (dc_of self.new) }
+        ensures given { result ≡ true → S.takes sink.old asking.session asking.number (S.told sink.new) sink.new }
+        ensures untold { result ≡ false → sink.new ≡ sink.old }
     {
         let DataComponent::Up(dc) = self else {
-            refuse(Refusal::NotConnected, done, out);
-            return;
+            *out = Out::Refused(Refusal::NotConnected);
+            return false;
         };
         if let Err(refusal) = dc.allows_session(asking.session) {
-            refuse(refusal, done, out);
-            return;
+            *out = Out::Refused(refusal);
+            return false;
         }
         let Some(number) = next else {
-            refuse(Refusal::NoMemory, done, out);
-            return;
+            *out = Out::Refused(Refusal::NoMemory);
+            return false;
         };
-        dc.perform(asking, op, done);
-        match done {
-            Ok(_) => *out = Out::Replied(number),
-            Err(refusal) => *out = Out::Refused(*refusal),
+        match dc.perform(asking, op, sink) {
+            Ok(()) => {
+                *out = Out::Replied(number);
+                true
+            }
+            Err(refusal) => {
+                *out = Out::Refused(refusal);
+                false
+            }
         }
     }
 
@@ -205,13 +215,4 @@ fn has_reply(request: &Request) -> bool
         request,
         Request::LowWater { .. } | Request::StableEnd { .. }
     )
-}
-
-/// Nothing is performed, for this cause.
-fn refuse(refusal: Refusal, done: &mut Result<Done, Refusal>, out: &mut Out)
-    ensures done { done.new ≡ Err refusal }
-    ensures out { out.new ≡ Out.Refused refusal }
-{
-    *done = Err(refusal);
-    *out = Out::Refused(refusal);
 }

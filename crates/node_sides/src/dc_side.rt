@@ -1,8 +1,9 @@
 //! The data component as half of a node, which may also step alone: it is handed the requests that it serves, and hands
 //! out its replies.
-ghost use Rattle.std.specs.Prelude.{◌≡◌, true, false, Some, None, OnOk, OnErr, IfOk, IfErr, MatchBool, if◌then◌else◌};
+ghost use Rattle.std.specs.Prelude.{◌≡◌, true, false, Some, None, OnSome, OnOk, OnErr, IfOk, IfErr, MatchBool, if◌then◌else◌};
 ghost use Rattle.std.specs.FinMap.{entries};
 ghost use Rattle.std.specs.Option.{option_copied};
+ghost use Rattle.record_key.specs.Lent.{op_lent};
 ghost use Rattle.stable.specs.Usage.{unused};
 ghost use Rattle.btree.specs.Leaves.{rows_of};
 ghost use Rattle.system_txn.specs.Kept.{IsRecoverable};
@@ -19,8 +20,8 @@ use crate::put::put;
 use codec::{Asking, Reply, Request};
 use dc_core::Dc;
 use node_laws::{Event, Out};
-use page::Done;
-use record_key::{Key, Op, Refusal, Value};
+use page::AnswerSink;
+use record_key::{Key, OpRef, Refusal, Value};
 use stable::{CrashLog, CrashPages, MemLog, MemPages};
 use std::alloc::Global;
 use std::marker::Model;
@@ -205,26 +206,31 @@ impl<D: CrashLog, P: CrashPages> DcSide<D, P> {
         component.kept();
     }
 
-    /// A Request event that finds a request to perform, whose operation is apart.
-    pub fn perform(
+    /// A Request event that finds a request to perform, whose operation is apart. The answer goes into the sink, which is
+    /// the reply; whether there is one.
+    pub fn perform<S: AnswerSink>(
         &mut self,
         asking: Asking,
-        op: &Op,
+        op: &OpRef<'_>,
         next: Option<u64>,
-        done: &mut Result<Done, Refusal>,
+        sink: &mut S,
         out: &mut Out,
-    )
-        requires numbers { HasRequestNumbers (request_to asking op.now) }
-        requires owed { MayAsk self.old.dc (request_to asking op.now) }
-        ensures serves { DcServes self.old next (Some (request_to asking op.now)) out.new (reply_if asking done.new)
-            self.new }
+    ) -> bool
+        requires numbers { HasRequestNumbers (request_to asking (op_lent op.now)) }
+        requires owed { MayAsk self.old.dc (request_to asking (op_lent op.now)) }
+        requires may_take { OnSome next (S.may_take sink.old asking.session asking.number) }
+        ensures serves { DcServes self.old next (Some (request_to asking (op_lent op.now))) out.new
+            (reply_if asking result (S.told sink.new)) self.new }
+        ensures given { result ≡ true → S.takes sink.old asking.session asking.number (S.told sink.new) sink.new }
+        ensures untold { result ≡ false → sink.new ≡ sink.old }
         ensures kept { IsDc self.new.dc }
     {
         let Some(component) = &mut self.component else {
             unreachable!();
         };
-        component.perform(asking, op, next, done, out);
+        let replied = component.perform(asking, op, next, sink, out);
         component.kept();
+        replied
     }
 
     /// What a read of this key by this session finds. Refused NotConnected where the component is down, else as it says.

@@ -1,5 +1,7 @@
 //! The calls of the transaction component, and the messages that they send and take.
 ghost use Rattle.std.specs.Prelude.{◌≡◌, ℕ, true, false, Some, None, IfOk, IfErr, IfSome, IfNone};
+ghost use Rattle.std.specs.Option.{option_copied, option_map};
+ghost use Rattle.codec.specs.Given.{answer_given};
 ghost use Rattle.codec.specs.declared.reply.Reply.TheVariants as says;
 ghost use Rattle.tc_core.specs.Heard.{told_with};
 ghost use Rattle.tc_core.specs.Recovery.{SendsOp};
@@ -11,10 +13,10 @@ ghost use Rattle.node_sides.specs.Seen.{tc_of};
 
 use crate::attempt::attempt;
 use crate::transaction_component::TransactionComponent;
-use codec::{Reply, Request};
+use codec::{GivenAnswer, Reply, Request};
 use node_laws::{Event, Out};
 use range_locks::Span;
-use record_key::{Answer, Key, Op, Refusal, Value};
+use record_key::{Key, Op, Refusal, Value};
 use stable::CrashLog;
 use std::alloc::Global;
 use tc_core::{Forced, Heard, Phase, RecoverStep, Told, UndoStep};
@@ -301,9 +303,10 @@ impl<D: CrashLog> TransactionComponent<D> {
     }
 
     /// The same of a reply that answers the operation of this number, whose answer is apart.
-    pub fn hear(&mut self, number: u64, answer: &mut Option<Answer>, out: &mut Out)
+    pub fn hear(&mut self, number: u64, answer: Option<&GivenAnswer<'_>>, out: &mut Out)
         ensures { (session : ℕ) → is_of_another (tc_of self.old).tc.session session ≡ false
-            → TcTakes (tc_of self.old) (Some (says.Answered session number answer.old)) out.new (tc_of self.new) }
+            → TcTakes (tc_of self.old) (Some (says.Answered session number (option_map answer_given (option_copied answer.entry))))
+            out.new (tc_of self.new) }
     {
         let TransactionComponent::Up(tc) = self else {
             *out = Out::Refused(Refusal::NotConnected);
@@ -449,15 +452,20 @@ fn tell_of(told: Told, out: &mut Out)
     }
 }
 
-/// What is told of an answer, which is handed over where a client is.
-fn tell_heard(heard: Heard, answer: &mut Option<Answer>, out: &mut Out)
-    ensures { out.new ≡ as_out (told_with answer.old heard) }
+/// What is told of an answer, which is copied where a client is told it.
+fn tell_heard(heard: Heard, answer: Option<&GivenAnswer<'_>>, out: &mut Out)
+    ensures { out.new ≡ as_out (told_with (option_map answer_given (option_copied answer.entry)) heard) }
 {
     match heard {
         Heard::Nothing => *out = Out::Nothing,
         Heard::Undone(number) => *out = Out::Undone(number),
-        Heard::Answered(txn) => match answer.take() {
-            Some(answer) => *out = Out::Answered { txn, answer },
+        Heard::Answered(txn) => match answer {
+            Some(answer) => {
+                *out = Out::Answered {
+                    txn,
+                    answer: answer.owned(),
+                };
+            }
             None => *out = Out::Nothing,
         },
     }

@@ -4,6 +4,8 @@ ghost use Rattle.std.specs.Prelude.{◌≡◌, ◌≤◌, ℕ, true, false, leng
 ghost use Rattle.stable.specs.Usage.{unused};
 ghost use Rattle.framed_log.specs.Beginning.{beginning};
 ghost use Rattle.logical_log.specs.Spelled.{spelled};
+ghost use Rattle.std.specs.Option.{option_copied, option_map};
+ghost use Rattle.codec.specs.Given.{answer_given};
 ghost use Rattle.codec.specs.declared.reply.Reply.TheVariants as says;
 ghost use Rattle.tc_core.specs.Kept.{IsTc};
 ghost use Rattle.tc_core.specs.Replies.{is_of_another};
@@ -14,9 +16,9 @@ ghost use Rattle.node_laws.specs.Halves.{of_tc, moves, TcLeads, TcCalls, TcTakes
 
 use crate::put::put;
 use crate::transaction_component::TransactionComponent;
-use codec::{Reply, Request};
+use codec::{GivenAnswer, Reply, Request};
 use node_laws::{Event, Out};
-use record_key::{Answer, Key, Op, Refusal, Value};
+use record_key::{Key, Op, Refusal, Value};
 use stable::{CrashLog, MemLog};
 use std::alloc::Global;
 use std::marker::Model;
@@ -234,9 +236,10 @@ impl<D: CrashLog> TcSide<D> {
     }
 
     /// A Reply event that finds one which answers the operation of this number, and whose answer is apart.
-    pub fn hear(&mut self, number: u64, answer: &mut Option<Answer>, out: &mut Out)
+    pub fn hear(&mut self, number: u64, answer: Option<&GivenAnswer<'_>>, out: &mut Out)
         ensures takes { (session : ℕ) → is_of_another self.old.tc.session session ≡ false
-            → TcTakes self.old (Some (says.Answered session number answer.old)) out.new self.new }
+            → TcTakes self.old (Some (says.Answered session number (option_map answer_given (option_copied answer.entry))))
+            out.new self.new }
         ensures kept { IsTc self.new.tc }
     {
         let Some(component) = &mut self.component else {

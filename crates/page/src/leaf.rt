@@ -10,17 +10,17 @@ ghost use Rattle.page.specs.Leaf.{first, IsLeaf};
 
 use crate::rows::{place_of, rows_below, rows_from};
 use ab_lsn::AbLsn;
-use record_key::{Answer, Entries, Key, Value};
+use record_key::{Entries, Key, Value};
 use std::alloc::Global;
 use std::marker::Model;
 
 /// What a request came to.
-#[derive(Debug, PartialEq, Eq, Drop)]
+#[derive(Debug, Clone, Copy, PartialEq, Eq)]
 pub enum Done {
-    /// It was performed now, with this answer.
-    Performed(Answer),
-    /// It had been performed before, with this answer if that is still kept.
-    Repeated(Option<Answer>),
+    /// It was performed now.
+    Performed,
+    /// It had been performed before.
+    Repeated,
 }
 
 /// The records between two fences, in key order, and which requests were performed on them.

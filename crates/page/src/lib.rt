@@ -7,6 +7,7 @@
 //! is honest for a log stays so, by the leaf law.
 #![tactic(auto)]
 
+mod answer_sink;
 mod laws;
 mod leaf;
 mod parting;
@@ -16,6 +17,7 @@ mod rows;
 mod taking_back;
 mod tops;
 
+pub use answer_sink::AnswerSink;
 pub use laws::leaf_law;
 pub use leaf::{Done, Leaf};
 pub use row_sink::RowSink;

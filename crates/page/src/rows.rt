@@ -4,12 +4,13 @@ ghost use Rattle.std.specs.Option.{option_copied};
 ghost use Rattle.std.specs.Vec.{vec_capacity};
 ghost use Rattle.std.specs.FinMap.{get};
 ghost use Rattle.record_key.specs.Table.{answer_at as answer_to};
+ghost use Rattle.record_key.specs.Lent.{op_lent, answer_lent};
 ghost use Rattle.record_key.specs.Amounts.{summed};
 ghost use Rattle.record_key.specs.Order.{is_below};
 ghost use Rattle.record_key.specs.Rows.{IsPlaceOf, AreInOrder, table_of};
 ghost use Rattle.page.specs.Places.{IsStartFor, rows_after, rows_with_sum};
 
-use record_key::{Answer, Key, Op, Refusal, Value};
+use record_key::{AnswerRef, Change, Key, OpRef, Refusal, Value, ValueRef};
 
 /// Where the key's row stands, or where it would go.
 pub fn place_of(rows: &[(Key, Value)], key: &Key) -> Result<usize, usize>
@@ -22,35 +23,40 @@ pub fn place_of(rows: &[(Key, Value)], key: &Key) -> Result<usize, usize>
 }
 
 /// The value at a key whose place is known.
-pub fn value_at(rows: &[(Key, Value)], key: &Key, place: Result<usize, usize>) -> Option<Value>
+pub fn value_at<'a>(
+    rows: &'a [(Key, Value)],
+    key: &Key,
+    place: Result<usize, usize>,
+) -> Option<&'a Value>
     requires ordered { AreInOrder rows.now }
     requires place { IsPlaceOf key.now rows.now place }
     requires within { IfOk place (λ at. at < length rows.now) }
-    ensures { result ≡ get (table_of rows.now) key.now }
+    ensures { option_copied result ≡ get (table_of rows.now) key.now }
 {
     match place {
-        Ok(at) => Some(rows[at].1.copied()),
+        Ok(at) => Some(&rows[at].1),
         Err(_) => None,
     }
 }
 
 /// What the operation is answered, where this is the value at its key.
-pub fn answer_at(op: &Op, old: Option<Value>) -> Answer
-    ensures { result ≡ answer_to op.now old }
+pub fn answer_at<'a>(op: &OpRef<'_>, old: Option<&'a Value>) -> AnswerRef<'a>
+    ensures { answer_lent result ≡ answer_to (op_lent op.now) (option_copied old.entry) }
 {
-    match (op, old) {
-        (Op::Insert(_, _), None) => Answer::Inserted,
-        (Op::Insert(_, _), Some(_)) => Answer::Exists,
-        (Op::Update(_, _), Some(old)) => Answer::Updated(old),
-        (Op::Upsert(_, _), old) => Answer::Was(old),
-        (Op::Delete(_), Some(old)) => Answer::Deleted(old),
-        (Op::Add(_, amount), Some(old)) => match old.plus(*amount) {
-            Some(_) => Answer::Added(*amount),
-            None => Answer::NotNumber,
+    match (&op.change, old) {
+        (Change::Insert(_), None) => AnswerRef::Inserted,
+        (Change::Insert(_), Some(_)) => AnswerRef::Exists,
+        (Change::Update(_), Some(old)) => AnswerRef::Updated(old.lent()),
+        (Change::Upsert(_), Some(old)) => AnswerRef::Was(Some(old.lent())),
+        (Change::Upsert(_), None) => AnswerRef::Was(None),
+        (Change::Delete, Some(old)) => AnswerRef::Deleted(old.lent()),
+        (Change::Add(amount), Some(old)) => match old.plus(*amount) {
+            Some(_) => AnswerRef::Added(*amount),
+            None => AnswerRef::NotNumber,
         },
-        (Op::Update(_, _), None) => Answer::NoRecord,
-        (Op::Delete(_), None) => Answer::NoRecord,
-        (Op::Add(_, _), None) => Answer::NoRecord,
+        (Change::Update(_), None) => AnswerRef::NoRecord,
+        (Change::Delete, None) => AnswerRef::NoRecord,
+        (Change::Add(_), None) => AnswerRef::NoRecord,
     }
 }
 
@@ -106,25 +112,25 @@ fn start_of(rows: &[(Key, Value)], key: &Key) -> usize
 }
 
 /// Does the operation, where its key's place is known and there is room for a row. Takes no memory.
-pub fn write_at(rows: &mut Vec<(Key, Value)>, op: &Op, place: Result<usize, usize>)
+pub fn write_at(rows: &mut Vec<(Key, Value)>, op: &OpRef<'_>, place: Result<usize, usize>)
     requires within { IfOk place (λ at. at < vec_len rows.old) }
     requires bounded { IfErr place (λ gap. gap ≤ vec_len rows.old) }
     requires room { vec_len rows.old < vec_capacity rows.old }
-    ensures { rows.new.items ≡ rows_after op.now place rows.old.items }
+    ensures { rows.new.items ≡ rows_after (op_lent op.now) place rows.old.items }
 {
-    match (op, place) {
-        (Op::Insert(key, value), Err(gap)) => insert_row(rows, gap, key, value),
-        (Op::Insert(_, _), Ok(_)) => {}
-        (Op::Update(key, value), Ok(at)) => rows[at] = (key.copied(), value.copied()),
-        (Op::Update(_, _), Err(_)) => {}
-        (Op::Upsert(key, value), Ok(at)) => rows[at] = (key.copied(), value.copied()),
-        (Op::Upsert(key, value), Err(gap)) => insert_row(rows, gap, key, value),
-        (Op::Delete(_), Ok(at)) => {
+    match (&op.change, place) {
+        (Change::Insert(value), Err(gap)) => insert_row(rows, gap, op.key, value),
+        (Change::Insert(_), Ok(_)) => {}
+        (Change::Update(value), Ok(at)) => rows[at] = (op.key.copied(), value.owned()),
+        (Change::Update(_), Err(_)) => {}
+        (Change::Upsert(value), Ok(at)) => rows[at] = (op.key.copied(), value.owned()),
+        (Change::Upsert(value), Err(gap)) => insert_row(rows, gap, op.key, value),
+        (Change::Delete, Ok(at)) => {
             rows.remove(at);
         }
-        (Op::Delete(_), Err(_)) => {}
-        (Op::Add(key, amount), Ok(at)) => put_sum(rows, at, key, *amount),
-        (Op::Add(_, _), Err(_)) => {}
+        (Change::Delete, Err(_)) => {}
+        (Change::Add(amount), Ok(at)) => put_sum(rows, at, op.key, *amount),
+        (Change::Add(_), Err(_)) => {}
     }
 }
 
@@ -140,12 +146,12 @@ fn put_sum(rows: &mut Vec<(Key, Value)>, at: usize, key: &Key, amount: u64)
 }
 
 /// Puts a new row in its gap.
-fn insert_row(rows: &mut Vec<(Key, Value)>, gap: usize, key: &Key, value: &Value)
+fn insert_row(rows: &mut Vec<(Key, Value)>, gap: usize, key: &Key, value: &ValueRef<'_>)
     requires bounded { gap ≤ vec_len rows.old }
     requires room { vec_len rows.old < vec_capacity rows.old }
     ensures { rows.new.items ≡ insert rows.old.items gap (key.now, value.now) }
 {
-    match rows.insert(gap, (key.copied(), value.copied())) {
+    match rows.insert(gap, (key.copied(), value.owned())) {
         Ok(()) => {}
         Err(_) => unreachable!(),
     }

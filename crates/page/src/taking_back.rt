@@ -73,6 +73,6 @@ fn undo(rows: &mut Vec<(Key, Value)>, entry: &Entry, end: u64) -> Result<(), Ref
     };
     rows.reserve(1)?;
     let place = place_of(rows.as_slice(), op.key());
-    write_at(rows, &op, place);
+    write_at(rows, &op.lent(), place);
     Ok(())
 }

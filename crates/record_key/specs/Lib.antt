@@ -9,3 +9,4 @@ pub mod Rows
 pub mod Entries
 pub mod Packed
 pub mod Inline
+pub mod Lent

@@ -2,12 +2,13 @@
 ghost use Rattle.std.specs.Prelude.{◌≡◌, ◌<◌, ◌≤◌, ◌+◌, ◌++◌, ◌∷◌, [], length, get_or, filter, not, nat_lt, OnOk, OnErr, IfOk, IfErr};
 ghost use Rattle.std.specs.List.{insert};
 ghost use Rattle.record_key.specs.declared.entry.Entry.{Entry as EntryValue};
+ghost use Rattle.record_key.specs.Lent.{answer_lent};
 ghost use Rattle.record_key.specs.Order.{is_below};
 ghost use Rattle.record_key.specs.Entries.{RiseAbove, IsPlaceOfNumber, top_in};
 
 use crate::entry::Entry;
 use crate::key::Key;
-use crate::op::Answer;
+use crate::lent::AnswerRef;
 use crate::packed::{PACKED_LIMIT, answer_at, is_under, key_at, packed_len, put};
 use crate::refusal::Refusal;
 use crate::slot::Slot;
@@ -105,11 +106,11 @@ impl Entries {
         at: usize,
         number: u64,
         key: &Key,
-        answer: &Answer,
+        answer: &AnswerRef<'_>,
     ) -> Result<(), Refusal>
         requires { at ≤ length self.old }
         ensures inserted { OnOk result (self.new ≡ insert self.old at
-            (record { number = number; key = key.now; answer = answer.now })) }
+            (record { number = number; key = key.now; answer = answer_lent answer.now })) }
         ensures unchanged { OnErr result (self.new ≡ self.old) }
         ensures refused { IfErr result (λ refusal. refusal ≡ Refusal.NoMemory) }
     {
@@ -123,7 +124,7 @@ impl Entries {
         ensures unchanged { OnErr result (self.new ≡ self.old) }
         ensures refused { IfErr result (λ refusal. refusal ≡ Refusal.NoMemory) }
     {
-        self.put_at(self.len(), entry.number, &entry.key, &entry.answer)
+        self.put_at(self.len(), entry.number, &entry.key, &entry.answer.lent())
     }
 
     /// Drops those whose numbers are at most this one. Takes no memory.
@@ -163,10 +164,16 @@ impl Entries {
         Ok(copied)
     }
 
-    fn put_at(&mut self, at: usize, number: u64, key: &Key, answer: &Answer) -> Result<(), Refusal>
+    fn put_at(
+        &mut self,
+        at: usize,
+        number: u64,
+        key: &Key,
+        answer: &AnswerRef<'_>,
+    ) -> Result<(), Refusal>
         requires { at ≤ length self.old }
         ensures inserted { OnOk result (self.new ≡ insert self.old at
-            (record { number = number; key = key.now; answer = answer.now })) }
+            (record { number = number; key = key.now; answer = answer_lent answer.now })) }
         ensures unchanged { OnErr result (self.new ≡ self.old) }
         ensures refused { IfErr result (λ refusal. refusal ≡ Refusal.NoMemory) }
     {

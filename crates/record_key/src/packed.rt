@@ -4,9 +4,11 @@ ghost use Rattle.std.specs.Prelude.{◌≡◌, ◌+◌, ◌≤◌, ◌++◌, len
 ghost use Rattle.std.specs.Vec.{vec_capacity};
 ghost use Rattle.record_key.specs.Order.{is_below};
 ghost use Rattle.record_key.specs.Amounts.{amount_bytes};
+ghost use Rattle.record_key.specs.Lent.{answer_lent};
 ghost use Rattle.record_key.specs.Packed.{kind_of, value_told, amount_of, answer_from, packed, key_at, packed_answer, HasLengths, IsPacked};
 
 use crate::key::Key;
+use crate::lent::AnswerRef;
 use crate::op::Answer;
 use crate::value::Value;
 use byteorder::{BigEndian, ByteOrder};
@@ -19,10 +21,10 @@ pub(crate) const PACKED_LIMIT: usize = 155;
 
 /// Appends a key and an answer. There is room for them.
 #[tactic(auto, unfolding(crate::specs::Packed::packed))]
-pub(crate) fn put(bytes: &mut Vec<u8>, key: &Key, answer: &Answer)
+pub(crate) fn put(bytes: &mut Vec<u8>, key: &Key, answer: &AnswerRef<'_>)
     requires { vec_len bytes.old + 155 ≤ vec_capacity bytes.old }
-    ensures packed { bytes.new.items ≡ bytes.old.items ++ packed key.now answer.now }
-    ensures lengths { HasLengths key.now answer.now }
+    ensures packed { bytes.new.items ≡ bytes.old.items ++ packed key.now (answer_lent answer.now) }
+    ensures lengths { HasLengths key.now (answer_lent answer.now) }
 {
     let amount = amount_of(answer).to_be_bytes();
     let (key, value) = (key.as_bytes(), value_of(answer, &amount));
@@ -46,49 +48,49 @@ fn extend(bytes: &mut Vec<u8>, more: &[u8])
     }
 }
 
-fn kind_of(answer: &Answer) -> u8
-    ensures { result ≡ kind_of answer.now }
+fn kind_of(answer: &AnswerRef<'_>) -> u8
+    ensures { result ≡ kind_of (answer_lent answer.now) }
 {
     match answer {
-        Answer::Inserted => 1,
-        Answer::Updated(_) => 2,
-        Answer::Was(None) => 3,
-        Answer::Was(Some(_)) => 4,
-        Answer::Deleted(_) => 5,
-        Answer::Exists => 6,
-        Answer::NoRecord => 7,
-        Answer::NotNumber => 8,
-        Answer::Added(_) => 9,
+        AnswerRef::Inserted => 1,
+        AnswerRef::Updated(_) => 2,
+        AnswerRef::Was(None) => 3,
+        AnswerRef::Was(Some(_)) => 4,
+        AnswerRef::Deleted(_) => 5,
+        AnswerRef::Exists => 6,
+        AnswerRef::NoRecord => 7,
+        AnswerRef::NotNumber => 8,
+        AnswerRef::Added(_) => 9,
     }
 }
 
 /// The amount that an answer tells, 0 where it tells none.
-fn amount_of(answer: &Answer) -> u64
-    ensures { result ≡ amount_of answer.now }
+fn amount_of(answer: &AnswerRef<'_>) -> u64
+    ensures { result ≡ amount_of (answer_lent answer.now) }
 {
     match answer {
-        Answer::Added(amount) => *amount,
+        AnswerRef::Added(amount) => *amount,
         _ => 0,
     }
 }
 
 /// The bytes of the value or the amount that an answer tells, none where it tells none.
 #[tactic(auto, unfolding(crate::specs::Amounts::amount_bytes))]
-fn value_of<'a>(answer: &'a Answer, amount: &'a [u8; 8]) -> &'a [u8]
-    requires { amount.now ≡ amount_bytes (amount_of answer.now) }
-    ensures bytes { result.now ≡ value_told answer.now }
+fn value_of<'a>(answer: &'a AnswerRef<'_>, amount: &'a [u8; 8]) -> &'a [u8]
+    requires { amount.now ≡ amount_bytes (amount_of (answer_lent answer.now)) }
+    ensures bytes { result.now ≡ value_told (answer_lent answer.now) }
     ensures bounded { length result.now ≤ 120 }
 {
     match answer {
-        Answer::Updated(value) | Answer::Was(Some(value)) | Answer::Deleted(value) => {
+        AnswerRef::Updated(value) | AnswerRef::Was(Some(value)) | AnswerRef::Deleted(value) => {
             value.as_bytes()
         }
-        Answer::Added(_) => amount,
-        Answer::Inserted
-        | Answer::Was(None)
-        | Answer::Exists
-        | Answer::NoRecord
-        | Answer::NotNumber => &[],
+        AnswerRef::Added(_) => amount,
+        AnswerRef::Inserted
+        | AnswerRef::Was(None)
+        | AnswerRef::Exists
+        | AnswerRef::NoRecord
+        | AnswerRef::NotNumber => &[],
     }
 }
 

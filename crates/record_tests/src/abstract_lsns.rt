@@ -93,7 +93,7 @@ fn note(own: &mut AbLsn, number: u64, key: &Key) -> Result<(), Refusal> {
     }
     let len = own.entries().len();
     let given = answer_of(number)?;
-    match own.note(number, key, &given) {
+    match own.note(number, key, &given.lent()) {
         Ok(()) => Ok(()),
         Err(refusal) => {
             let is_unchanged = own.entries().len() == len && !own.captures(number);

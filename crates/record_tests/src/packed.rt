@@ -129,7 +129,7 @@ fn put_packed(
     if at > packed.len() {
         return Ok(());
     }
-    match packed.insert(at, entry.number, &entry.key, &entry.answer) {
+    match packed.insert(at, entry.number, &entry.key, &entry.answer.lent()) {
         Ok(()) => Ok(()),
         Err(refusal) => Err(refused(refusal, is_listed(packed, listed))),
     }

@@ -8,8 +8,8 @@ use crate::rows::put_rows;
 use crate::walking::{Found, Reading};
 use crate::written::{marked, told, unwritten};
 use codec::{
-    Reply, Taken, answered_at, found_at, kept_rows, put_answered, put_reply, reply_session,
-    take_reply,
+    Reply, Taken, answered_at, found_at, kept_rows, put_answered, put_found, put_reply,
+    reply_session, take_reply,
 };
 use record_key::{Answer, Refusal, Value};
 use std::fmt::Write;
@@ -51,25 +51,43 @@ fn compare_apart(
 ) -> Result<(), Refusal>
     requires { IsOrdered found.now }
 {
-    let mut held = None;
-    let answered = answered_at(reading.bytes, reading.at, &mut held);
-    let mut is_same = answered.is_none();
-    if let Reply::Answered {
-        session,
-        number,
-        answer: given,
-    } = found
-    {
-        let mut out = marked(reading)?;
-        if let Err(refusal) = put_answered(&mut out, *session, *number, given.as_ref()) {
-            return Err(unwritten(refusal, &out));
-        }
-        is_same = answered == Some(*number) && held == *given && out.as_slice() == written;
+    let mut is_same = is_answered(reading, found) && is_found(reading, found);
+    if let Some(out) = written_apart(reading, found)? {
+        is_same = is_same && out.as_slice() == written;
     }
-    if !is_same || !is_found(reading, found) {
+    if !is_same {
         answer.push_str(" but apart otherwise")?;
     }
     Ok(())
+}
+
+/// What is written of it behind the mark with its answer or its value apart. Refused NoMemory.
+fn written_apart(reading: &Reading<'_>, found: &Reply) -> Result<Option<Vec<u8>>, Refusal>
+    requires { IsOrdered found.now }
+{
+    let mut out = marked(reading)?;
+    let put = match found {
+        Reply::Answered {
+            session,
+            number,
+            answer: None,
+        } => put_answered(&mut out, *session, *number, None),
+        Reply::Answered {
+            session,
+            number,
+            answer: Some(given),
+        } => put_answered(&mut out, *session, *number, Some(&given.lent())),
+        Reply::Row {
+            session,
+            read,
+            value,
+        } => put_found(&mut out, *session, *read, value.as_ref()),
+        _ => return Ok(None),
+    };
+    match put {
+        Ok(()) => Ok(Some(out)),
+        Err(refusal) => Err(unwritten(refusal, &out)),
+    }
 }
 
 /// Tells where its rows are read otherwise without a look at them.
@@ -101,6 +119,23 @@ fn are_same(kept: &Option<Reply>, found: &Reply) -> bool {
                 rows: same,
             },
         ) => of == session && number == read && same == rows,
+        _ => false,
+    }
+}
+
+fn is_answered(reading: &Reading<'_>, found: &Reply) -> bool {
+    let answered = answered_at(reading.bytes, reading.at);
+    let Reply::Answered {
+        number,
+        answer: given,
+        ..
+    } = found
+    else {
+        return answered.is_none();
+    };
+    match (answered, given) {
+        (Some((of, None)), None) => of == *number,
+        (Some((of, Some(held))), Some(given)) => of == *number && held.owned() == *given,
         _ => false,
     }
 }

@@ -3,8 +3,8 @@ ghost use Rattle.codec.specs.Requests.{HasRequestNumbers};
 
 use crate::walking::{Found, Reading};
 use crate::written::{marked, told, unwritten};
-use codec::{Asking, Request, Taken, asking_at, put_request, reading_at, take_request};
-use record_key::{Key, Op, Refusal};
+use codec::{Asking, Request, Taken, asking_at, put_get, put_request, reading_at, take_request};
+use record_key::{Change, Key, Op, Refusal};
 use std::fmt::Write;
 use test_lines::{put_key, put_op};
 
@@ -16,7 +16,7 @@ pub fn read(reading: &Reading<'_>, answer: &mut String) -> Result<Found, Refusal
             if reading.tells {
                 put_fields(answer, &found)?;
             }
-            compare_apart(reading, &found, answer)?;
+            compare_apart(reading, &found, &out, answer)?;
             told(reading, next, &out, answer)
         }
         Taken::Short => Ok(Found::Short),
@@ -35,26 +35,63 @@ fn written(reading: &Reading<'_>, found: &Request) -> Result<Vec<u8>, Refusal>
     }
 }
 
-/// Tells where it is read otherwise with its operation or its key apart.
+/// Tells where it is read otherwise with its operation or its key apart, or one to read a key is written otherwise so.
 fn compare_apart(
     reading: &Reading<'_>,
     found: &Request,
+    written: &[u8],
     answer: &mut String,
-) -> Result<(), Refusal> {
-    if !is_asked(reading, found) || !is_read(reading, found) {
+) -> Result<(), Refusal>
+    requires { HasRequestNumbers found.now }
+{
+    let mut is_same = is_asked(reading, found) && is_read(reading, found);
+    if let Request::Get { session, read, key } = found {
+        let mut out = marked(reading)?;
+        if let Err(refusal) = put_get(&mut out, *session, *read, key) {
+            return Err(unwritten(refusal, &out));
+        }
+        is_same = is_same && out.as_slice() == written;
+    }
+    if !is_same {
         answer.push_str(" but apart otherwise")?;
     }
     Ok(())
 }
 
 fn is_asked(reading: &Reading<'_>, found: &Request) -> bool {
-    let mut op = None;
-    let asking = asking_at(reading.bytes, reading.at, &mut op);
-    match (asking, op) {
-        (Some(asking), Some(op)) => *found == perform(asking, op),
-        (Some(_), None) => false,
-        (None, _) => !matches!(found, Request::Perform { .. }),
+    let mut key = None;
+    let asked = asking_at(reading.bytes, reading.at, &mut key);
+    let Request::Perform {
+        session,
+        number,
+        stable,
+        op,
+    } = found
+    else {
+        return asked.is_none();
+    };
+    let numbers = Asking {
+        session: *session,
+        number: *number,
+        stable: *stable,
+    };
+    match (asked, key) {
+        (Some((asking, change)), Some(key)) => asking == numbers && does(op, &key, &change),
+        _ => false,
     }
+}
+
+/// Whether the operation does this to the record of this key.
+fn does(op: &Op, key: &Key, change: &Change<'_>) -> bool {
+    let is_change = match (op, change) {
+        (Op::Insert(_, value), Change::Insert(given))
+        | (Op::Update(_, value), Change::Update(given))
+        | (Op::Upsert(_, value), Change::Upsert(given)) => value.as_bytes() == given.as_bytes(),
+        (Op::Delete(_), Change::Delete) => true,
+        (Op::Add(_, amount), Change::Add(given)) => amount == given,
+        _ => false,
+    };
+    is_change && op.key() == key
 }
 
 fn is_read(reading: &Reading<'_>, found: &Request) -> bool {
@@ -67,20 +104,6 @@ fn is_read(reading: &Reading<'_>, found: &Request) -> bool {
         }
         (Some(_), None) => false,
         (None, _) => !matches!(found, Request::Get { .. }),
-    }
-}
-
-fn perform(asking: Asking, op: Op) -> Request {
-    let Asking {
-        session,
-        number,
-        stable,
-    } = asking;
-    Request::Perform {
-        session,
-        number,
-        stable,
-        op,
     }
 }
 

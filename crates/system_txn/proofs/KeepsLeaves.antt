@@ -1,10 +1,11 @@
 -- Leaves that change, and keep numbers that have spellings.
-use Rattle.std.proofs.Common.{◌≡◌, ℕ, false, List, map, sym, subst, inl, inr}
+use Rattle.std.proofs.Common.{◌≡◌, ℕ, false, List, Option, map, sym, subst, inl, inr}
 use Rattle.std.specs.Prelude.{not, nat_lt}
 use Rattle.std.specs.List.{AllByRecursion}
 use Rattle.std.proofs.lemmas.Bool.{cases_Bool, MatchBool-at_true, MatchBool-at_false}
 use Rattle.record_key.specs.Table.{key_of}
 use Rattle.record_key.specs.declared.entry.Entry.{Entry}
+use Rattle.record_key.specs.declared.op.Answer.{Answer}
 use Rattle.record_key.specs.declared.op.Op.{Op}
 use Rattle.ab_lsn.specs.AbLsn.{captures}
 use Rattle.codec.specs.Entries.{HasEntryNumber}
@@ -66,11 +67,11 @@ keeps_performed v n o small h out =
     (λ has. numbers_stay.perform (leaf_at v.leaves (key_of o)) n o has small) h.numbers)
 
 -- the same, whatever the request came to
-pub keeps_performs : (v : SystemView) (n : ℕ) (o : Op) (done : Done) (new : List LeafView) → IsNumber n → IsSystem v
-    → PerformsAt v.leaves n o done new → IsSystem (record v { leaves = new })
-keeps_performs v n o done new small h performs =
+pub keeps_performs : (v : SystemView) (n : ℕ) (o : Op) (done : Done) (a : Option Answer) (new : List LeafView)
+    → IsNumber n → IsSystem v → PerformsAt v.leaves n o done a new → IsSystem (record v { leaves = new })
+keeps_performs v n o done a new small h performs =
     let Of : List LeafView → Type 0 = λ leaves. IsSystem (record v { leaves = leaves }) in
     elim (cases_Bool (captures (leaf_at v.leaves (key_of o)).ab n)) [
-      | inl again ↦ subst Of (sym (MatchBool-at_true _ _ again performs).1) h
-      | inr out ↦ subst Of (sym (MatchBool-at_false _ _ out performs).1) (keeps_performed v n o small h out)
+      | inl again ↦ subst Of (sym (MatchBool-at_true _ _ again performs).1.1) h
+      | inr out ↦ subst Of (sym (MatchBool-at_false _ _ out performs).1.1) (keeps_performed v n o small h out)
     ]

@@ -1,6 +1,7 @@
 //! The leaves, the log of what was done to them, and their pages.
 ghost use Rattle.std.specs.Prelude.{◌≡◌, ◌<◌, ◌^◌, [], true, Some, None, IsOk, IfOk, IfErr, OnOk, OnErr, IsOkUnless};
 ghost use Rattle.std.specs.FinMap as map;
+ghost use Rattle.record_key.specs.Lent.{op_lent};
 ghost use Rattle.record_key.specs.Table.{key_of};
 ghost use Rattle.ab_lsn.specs.AbLsn.{captures};
 ghost use Rattle.btree.specs.Leaves.{leaf_at};
@@ -14,8 +15,8 @@ ghost use Rattle.system_txn.specs.Seen.{seen};
 use crate::change_log::ChangeLog;
 use crate::devices::{Devices, Refused};
 use btree::{LeafSet, one_leaf};
-use page::Done;
-use record_key::{Op, Refusal};
+use page::{AnswerSink, Done};
+use record_key::{OpRef, Refusal};
 use stable::{LogDevice, PageDevice};
 use std::alloc::Global;
 
@@ -69,22 +70,31 @@ impl<L: LeafSet, D: LogDevice, P: PageDevice> Parts<L, D, P> {
         Ok(())
     }
 
-    /// Performs the operation under this number at the leaf of its key, once.
-    pub fn perform(&mut self, number: u64, op: &Op) -> Result<Done, Refusal>
+    /// Performs the operation under this number at the leaf of its key, once. The answer goes into the sink.
+    pub fn perform<S: AnswerSink>(
+        &mut self,
+        number: u64,
+        op: &OpRef<'_>,
+        asker: u64,
+        sink: &mut S,
+    ) -> Result<Done, Refusal>
         requires kept { IsSystem (seen L.leaves P.pages P.usage self.old) }
         requires number { number < 2 ^ 48 }
+        requires may { S.may_take sink.old asker number }
         ensures kept { IsSystem (seen L.leaves P.pages P.usage self.new) }
-        ensures done { IfOk result (λ done.
-            PerformsAt (L.leaves self.old.leaves) number op.now done (L.leaves self.new.leaves)) }
+        ensures done { IfOk result (λ done. PerformsAt (L.leaves self.old.leaves) number (op_lent op.now) done
+            (S.told sink.new) (L.leaves self.new.leaves)) }
+        ensures given { OnOk result (S.takes sink.old asker number (S.told sink.new) sink.new) }
         ensures rest { seen L.leaves P.pages P.usage self.new
             ≡ record (seen L.leaves P.pages P.usage self.old) { leaves = L.leaves self.new.leaves } }
-        ensures repeated { captures (leaf_at (L.leaves self.old.leaves) (key_of op.now)).ab number ≡ true
+        ensures repeated { captures (leaf_at (L.leaves self.old.leaves) (key_of (op_lent op.now))).ab number ≡ true
             → IsOk result }
         ensures refused { OnErr result
             (seen L.leaves P.pages P.usage self.new ≡ seen L.leaves P.pages P.usage self.old) }
+        ensures untold { OnErr result (sink.new ≡ sink.old) }
         ensures memory { IsOkUnless result Refusal.NoMemory }
     {
-        let done = self.leaves.perform(number, op)?;
+        let done = self.leaves.perform(number, op, asker, sink)?;
         Ok(done)
     }
 

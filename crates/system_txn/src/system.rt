@@ -2,6 +2,7 @@
 ghost use Rattle.std.specs.Prelude.{◌≡◌, ◌++◌, ◌<◌, ◌≤◌, ◌^◌, [], true, length, get_or, Some, None, IsOk, IfOk, IfErr, OnOk, OnErr, IsOkUnless};
 ghost use Rattle.std.specs.FinMap as map;
 ghost use Rattle.std.specs.Option.{option_copied};
+ghost use Rattle.record_key.specs.Lent.{op_lent};
 ghost use Rattle.record_key.specs.Table.{key_of};
 ghost use Rattle.ab_lsn.specs.AbLsn.{captures};
 ghost use Rattle.page.specs.Leaf.{first};
@@ -21,8 +22,8 @@ use crate::devices::{Device, Devices, Refused};
 use crate::parts::Parts;
 use crate::tended::{Neighbours, Tended};
 use btree::LeafSet;
-use page::{Done, Leaf, RowSink};
-use record_key::{Key, Op, Refusal, Value};
+use page::{AnswerSink, Done, Leaf, RowSink};
+use record_key::{Key, OpRef, Refusal, Value};
 use stable::{CrashLog, CrashPages, LogDevice, PageDevice};
 use std::alloc::Global;
 use std::marker::Model;
@@ -151,17 +152,28 @@ impl<L: LeafSet, D: LogDevice, P: PageDevice> SystemTxns<L, D, P> {
         self.parts.can_log()
     }
 
-    /// Performs the operation under this number at the leaf of its key, or gives the answer that it had under it
-    /// before, if that is still kept. Refused NoMemory, and unchanged then; a repeated number takes no memory.
-    pub fn perform(&mut self, number: u64, op: &Op) -> Result<Done, Refusal>
-        requires { number < 2 ^ 48 }
-        ensures done { IfOk result (λ done. PerformsAt self.old.leaves number op.now done self.new.leaves) }
+    /// Performs the operation under this number at the leaf of its key, or gives the answer that it had under it before,
+    /// if that is still kept: it goes into the sink, for this asker. Refused NoMemory, and unchanged then; a repeated
+    /// number takes no memory.
+    pub fn perform<S: AnswerSink>(
+        &mut self,
+        number: u64,
+        op: &OpRef<'_>,
+        asker: u64,
+        sink: &mut S,
+    ) -> Result<Done, Refusal>
+        requires number { number < 2 ^ 48 }
+        requires may { S.may_take sink.old asker number }
+        ensures done { IfOk result (λ done.
+            PerformsAt self.old.leaves number (op_lent op.now) done (S.told sink.new) self.new.leaves) }
+        ensures given { OnOk result (S.takes sink.old asker number (S.told sink.new) sink.new) }
         ensures rest { self.new ≡ record self.old { leaves = self.new.leaves } }
-        ensures repeated { captures (leaf_at self.old.leaves (key_of op.now)).ab number ≡ true → IsOk result }
+        ensures repeated { captures (leaf_at self.old.leaves (key_of (op_lent op.now))).ab number ≡ true → IsOk result }
         ensures refused { OnErr result (self.new ≡ self.old) }
+        ensures untold { OnErr result (sink.new ≡ sink.old) }
         ensures memory { IsOkUnless result Refusal.NoMemory }
     {
-        self.parts.perform(number, op)
+        self.parts.perform(number, op, asker, sink)
     }
 
     /// Counts every request up to this number as performed at each leaf. Takes no memory.

@@ -1,14 +1,18 @@
 //! What a reply is to a session and to a transaction.
 ghost use Rattle.std.specs.Prelude.{◌≡◌, Option, Some};
-ghost use Rattle.record_key.specs.declared.op.Answer.{Answer};
+ghost use Rattle.std.specs.Option.{option_map};
+ghost use Rattle.record_key.specs.declared.op.Answer.{Answer as AnswerValue};
+ghost use Rattle.codec.specs.Given.{answer_given};
 ghost use Rattle.tc_core.specs.Heard.{told_with};
 ghost use Rattle.tc_core.specs.Replies.{takes as is_taken, told_of, told_lost, left_awaited, span_read, is_key, is_range};
 
 use crate::open_txn::OpenTxn;
 use crate::phase::Phase;
 use crate::told::Heard;
+use codec::GivenAnswer;
 use history::Record;
 use range_locks::Span;
+use record_key::Answer;
 
 /// Whether the answer of this number is taken: clients are served, or redo waits for it.
 pub fn takes(session: u64, phase: Phase, number: u64) -> bool
@@ -35,9 +39,19 @@ pub fn reads_range(asker: &OpenTxn) -> bool
     matches!(&asker.reading, Some(read) if matches!(&read.span, Span::Range { .. }))
 }
 
+/// The answer of a reply, lent.
+pub fn lent(answer: &Option<Answer>) -> Option<GivenAnswer<'_>>
+    ensures { option_map answer_given result ≡ answer.now }
+{
+    match answer {
+        Some(answer) => Some(GivenAnswer::Whole(answer)),
+        None => None,
+    }
+}
+
 /// What is heard of an answer: nothing where it is a compensation's.
 pub fn heard_of(asker: &OpenTxn, number: u64) -> Heard
-    ensures { (a : Answer) → told_with (Some a) result ≡ told_of asker.now number a }
+    ensures { (a : AnswerValue) → told_with (Some a) result ≡ told_of asker.now number a }
 {
     if asker.rolling.is_some() {
         Heard::Undone(number)
@@ -48,7 +62,7 @@ pub fn heard_of(asker: &OpenTxn, number: u64) -> Heard
 
 /// What is heard of a loser's answer: that its compensation was performed.
 pub fn heard_lost(item: Option<Record>, number: u64) -> Heard
-    ensures { (a : Option Answer) → told_with a result ≡ told_lost item number }
+    ensures { (a : Option AnswerValue) → told_with a result ≡ told_lost item number }
 {
     match item {
         Some(Record::Comp { .. }) => Heard::Undone(number),

@@ -1,9 +1,10 @@
 //! What becomes of a reply.
 ghost use Rattle.std.specs.Prelude.{◌≡◌, Option, true, false, None, OnOk, OnErr, IfErr};
-ghost use Rattle.std.specs.Option.{option_copied};
+ghost use Rattle.std.specs.Option.{option_copied, option_map};
 ghost use Rattle.codec.specs.Replies.{session_of};
 ghost use Rattle.tc_core.specs.Replies.{is_stale, ReplyGives, awaiting, lacks, reader, passed, on_row as reads_row, on_rows as reads_rows, takes as takes_number, on_connected as connects, on_redo_ended as ends_redo};
 ghost use Rattle.record_key.specs.Table.{Bytes};
+ghost use Rattle.codec.specs.Given.{answer_given};
 ghost use Rattle.tc_core.specs.Answering.{AnsweredGives, Becomes};
 ghost use Rattle.tc_core.specs.Heard.{all_told, told_row};
 ghost use Rattle.tc_core.specs.Kept.{IsTc};
@@ -14,10 +15,10 @@ use crate::open_txn::OpenTxn;
 use crate::open_txns::Wanted;
 use crate::parts::Parts;
 use crate::phase::Phase;
-use crate::replies::{heard_lost, heard_of, left_waiting, reads_key, reads_range, takes};
+use crate::replies::{heard_lost, heard_of, left_waiting, lent, reads_key, reads_range, takes};
 use crate::told::{Heard, Told};
-use codec::{Reply, Rows};
-use record_key::{Answer, Refusal, Value};
+use codec::{GivenAnswer, Reply, Rows};
+use record_key::{Refusal, Value};
 use stable::LogDevice;
 
 impl<D: LogDevice> Parts<D> {
@@ -39,10 +40,10 @@ impl<D: LogDevice> Parts<D> {
     {
         match reply {
             Reply::Connected { .. } => Ok(self.on_connected()),
-            Reply::Answered { number, answer, .. } => match self.on_answered(number, &answer) {
-                Ok(heard) => Ok(heard.told(answer)),
-                Err(refusal) => Err(refusal),
-            },
+            Reply::Answered { number, answer, .. } => {
+                let heard = self.on_answered(number, lent(&answer).as_ref())?;
+                Ok(heard.told(answer))
+            }
             Reply::RedoEnded { .. } => Ok(self.on_redo_ended()),
             Reply::Row { read, value, .. } => Ok(self.on_row(read, value)),
             Reply::Rows { read, rows, .. } => Ok(self.on_rows(read, rows)),
@@ -95,10 +96,15 @@ impl<D: LogDevice> Parts<D> {
     }
 
     /// What comes of the answer of this number, which is logged where it is awaited.
-    pub fn on_answered(&mut self, number: u64, answer: &Option<Answer>) -> Result<Heard, Refusal>
+    pub fn on_answered(
+        &mut self,
+        number: u64,
+        answer: Option<&GivenAnswer<'_>>,
+    ) -> Result<Heard, Refusal>
         requires { IsTc (seen self.old) }
         ensures kept { IsTc (seen self.new) }
-        ensures gives { AnsweredGives (seen self.old) number answer.now (all_told answer.now result) (seen self.new) }
+        ensures gives { let given = option_map answer_given (option_copied answer.entry) in
+            AnsweredGives (seen self.old) number given (all_told given result) (seen self.new) }
     {
         if !takes(self.session, self.phase, number) {
             return Ok(Heard::Nothing);
@@ -118,12 +124,17 @@ impl<D: LogDevice> Parts<D> {
     }
 
     /// No client waits for it: a loser's answer is logged where there was none.
-    fn on_unawaited(&mut self, number: u64, answer: &Option<Answer>) -> Result<Heard, Refusal>
+    fn on_unawaited(
+        &mut self,
+        number: u64,
+        answer: Option<&GivenAnswer<'_>>,
+    ) -> Result<Heard, Refusal>
         requires kept { IsTc (seen self.old) }
         requires taken { takes_number self.old.session self.old.phase number ≡ true }
         requires unawaited { awaiting (seen self.old) number ≡ None }
         ensures kept { IsTc (seen self.new) }
-        ensures gives { AnsweredGives (seen self.old) number answer.now (all_told answer.now result) (seen self.new) }
+        ensures gives { let given = option_map answer_given (option_copied answer.entry) in
+            AnsweredGives (seen self.old) number given (all_told given result) (seen self.new) }
     {
         if !self.lacks(number) {
             self.pass(number);

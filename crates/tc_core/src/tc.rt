@@ -1,6 +1,6 @@
 //! The transaction component.
 ghost use Rattle.std.specs.Prelude.{◌≡◌, ◌≤◌, ◌++◌, ◌+◌, ℕ, Option, [], true, false, length, Some, None, Ok, IfSome, IfNone, IfOk, IfErr, OnOk, OnErr};
-ghost use Rattle.std.specs.Option.{option_copied};
+ghost use Rattle.std.specs.Option.{option_copied, option_map};
 ghost use Rattle.stable.specs.Crash.{BeginsWith};
 ghost use Rattle.stable.specs.Usage.{failing_in};
 ghost use Rattle.history.specs.Log.{record_at, request_in};
@@ -12,6 +12,7 @@ ghost use Rattle.tc_core.specs.TcView.{TcView, fresh_tc, used_so};
 ghost use Rattle.tc_core.specs.OpenTxns.{find, oldest, wants};
 ghost use Rattle.tc_core.specs.Calls.{ReconnectGives, BeginGives, ActGives, ReadGives, SaveGives, BackGives, RollbackGives, CommitGives, UndoGives, ForceGives, ResendGives, IsOpRequest, IsReadRequest, IsAwaitedOp, TellStableGives};
 ghost use Rattle.record_key.specs.Table.{Bytes};
+ghost use Rattle.codec.specs.Given.{answer_given};
 ghost use Rattle.codec.specs.declared.request.Request.TheVariants as asks;
 ghost use Rattle.codec.specs.declared.reply.Reply.TheVariants as says;
 ghost use Rattle.codec.specs.Replies.{session_of};
@@ -31,11 +32,11 @@ use crate::parts::Parts;
 use crate::phase::Phase;
 use crate::requests::copied;
 use crate::told::{Connecting, Forced, Heard, RecoverStep, Told, UndoStep};
-use codec::{Reply, Request};
+use codec::{GivenAnswer, Reply, Request};
 use history::Record;
 use logical_log::{Found, Refused};
 use range_locks::Span;
-use record_key::{Answer, Key, Op, Refusal};
+use record_key::{Key, Op, Refusal};
 use stable::{CrashLog, LogDevice};
 use std::alloc::Global;
 use std::marker::Model;
@@ -313,10 +314,16 @@ impl<D: LogDevice> Tc<D> {
 
     /// What `take_reply` does of a reply that answers the operation of this number, for a caller that has the answer apart:
     /// what is told of it, without the answer.
-    pub fn take_answer(&mut self, number: u64, answer: &Option<Answer>) -> Result<Heard, Refusal>
-        ensures answered { AnsweredGives self.old number answer.now (all_told answer.now result) self.new }
-        ensures gives { (session : ℕ) → is_stale self.old session ≡ false → ReplyGives self.old
-            (says.Answered session number answer.now) (all_told answer.now result) self.new }
+    pub fn take_answer(
+        &mut self,
+        number: u64,
+        answer: Option<&GivenAnswer<'_>>,
+    ) -> Result<Heard, Refusal>
+        ensures answered { let given = option_map answer_given (option_copied answer.entry) in
+            AnsweredGives self.old number given (all_told given result) self.new }
+        ensures gives { let given = option_map answer_given (option_copied answer.entry) in
+            (session : ℕ) → is_stale self.old session ≡ false
+            → ReplyGives self.old (says.Answered session number given) (all_told given result) self.new }
     {
         self.parts.on_answered(number, answer)
     }

@@ -1,11 +1,15 @@
--- A message whose operation, key, answer or value is read apart is the message of its number.
+-- A message whose key, operation, answer or value is read apart is the message of its number.
 use Rattle.std.proofs.Common.{◌≡◌, ◌∙◌, ℕ, zero, suc, List, map, Option, Some, None, option_map, IsSome, sym, ap, subst}
 use Rattle.std.proofs.lemmas.Option.{same_Some, slice_get-map}
 use Rattle.record_key.specs.declared.op.Op.{Op}
 use Rattle.record_key.specs.declared.op.Answer.{Answer}
+use Rattle.record_key.specs.declared.lent.Change.{Change}
+use Rattle.record_key.specs.Lent.{op_on}
+use Rattle.codec.specs.Given.{answer_given}
+use Rattle.codec.specs.declared.spelled_answer.GivenAnswer.{GivenAnswer}
 use Rattle.codec.specs.FrameIndex.{places_of}
 use Rattle.record_key.specs.Table.{Bytes}
-use Rattle.codec.specs.Parted.{asking_of, reading_of, answered_of, found_of, both, request_to, get_of}
+use Rattle.codec.specs.Parted.{asked_with, asking_of, reading_of, answered_of, found_of, both, request_to, get_of}
 use Rattle.codec.specs.declared.parted_reads.Reading.{Reading}
 use Rattle.codec.specs.declared.parted.Asking.{Asking}
 use Rattle.codec.specs.declared.request.Request.{Request}
@@ -48,51 +52,53 @@ pair_is : {A B : Type 0} {a c : A} {b d : B}
 pair_is {A = A} {B = B} {a = a} {c = c} {b = b} {d = d} e =
     let same = same_Some (a, b) (c, d) e in (ap (λ (p : A × B). p.0) same, ap (λ (p : A × B). p.1) same)
 
--- a request to perform, by its numbers and its operation
-pub asked_apart : (messages : List Request) (i : ℕ) (r : Request) (q : Asking) (o : Option Op) (key : Option Bytes)
-    (other : Option Request) → WasSent messages i r → both (Some q) o ≡ asking_of r → IsSome o
-    → IsReadApart messages i (asked.Perform q) o key other
-asked_apart messages i (asks.Perform s n stable op) q (Some o) key other sent is there =
+-- a request to perform, by its numbers, its key and what it does there
+pub asked_apart : (messages : List Request) (i : ℕ) (r : Request) (q : Asking) (change : Change) (key : Option Bytes)
+    (other : Option Request) → WasSent messages i r → asked_with (Some (q, change)) key ≡ asking_of r → IsSome key
+    → IsReadApart messages i (asked.Perform q change) key other
+asked_apart messages i (asks.Perform s n stable op) q change (Some k) other sent is there =
     let same = pair_is is in
     subst (WasSent messages i)
-    (sym (ap (λ (p : Asking). request_to p o) same.0
+    (sym (ap (λ (p : Asking). request_to p (op_on k change)) same.0
     ∙ ap (λ (p : Op). request_to (record { session = s; number = n; stable = stable }) p) same.1)) sent
-asked_apart messages i (asks.Connect s end) q (Some o) key other sent is there = absurd (cc)
-asked_apart messages i (asks.Get s n k) q (Some o) key other sent is there = absurd (cc)
-asked_apart messages i (asks.Scan s n lo hi) q (Some o) key other sent is there = absurd (cc)
-asked_apart messages i (asks.LowWater s l) q (Some o) key other sent is there = absurd (cc)
-asked_apart messages i (asks.Checkpoint s l) q (Some o) key other sent is there = absurd (cc)
-asked_apart messages i (asks.RedoEnd s) q (Some o) key other sent is there = absurd (cc)
-asked_apart messages i (asks.StableEnd s stable) q (Some o) key other sent is there = absurd (cc)
-asked_apart messages i r q None key other sent is there = absurd (cc)
+asked_apart messages i (asks.Connect s end) q change (Some key) other sent is there = absurd (cc)
+asked_apart messages i (asks.Get s n k) q change (Some key) other sent is there = absurd (cc)
+asked_apart messages i (asks.Scan s n lo hi) q change (Some key) other sent is there = absurd (cc)
+asked_apart messages i (asks.LowWater s l) q change (Some key) other sent is there = absurd (cc)
+asked_apart messages i (asks.Checkpoint s l) q change (Some key) other sent is there = absurd (cc)
+asked_apart messages i (asks.RedoEnd s) q change (Some key) other sent is there = absurd (cc)
+asked_apart messages i (asks.StableEnd s stable) q change (Some key) other sent is there = absurd (cc)
+asked_apart messages i r q change None other sent is there = absurd (cc)
 
 -- a request to read a key, by its numbers and the key
-pub read_apart : (messages : List Request) (i : ℕ) (r : Request) (q : Reading) (o : Option Op) (key : Option Bytes)
+pub read_apart : (messages : List Request) (i : ℕ) (r : Request) (q : Reading) (key : Option Bytes)
     (other : Option Request) → WasSent messages i r → both (Some q) key ≡ reading_of r → IsSome key
-    → IsReadApart messages i (asked.Get q) o key other
-read_apart messages i (asks.Get s n k) q o (Some key) other sent is there =
+    → IsReadApart messages i (asked.Get q) key other
+read_apart messages i (asks.Get s n k) q (Some key) other sent is there =
     let same = pair_is is in
     subst (WasSent messages i)
     (sym (ap (λ (p : Reading). get_of p key) same.0
     ∙ ap (λ (p : Bytes). get_of (record { session = s; read = n }) p) same.1)) sent
-read_apart messages i (asks.Connect s end) q o (Some key) other sent is there = absurd (cc)
-read_apart messages i (asks.Perform s n stable op) q o (Some key) other sent is there = absurd (cc)
-read_apart messages i (asks.Scan s n lo hi) q o (Some key) other sent is there = absurd (cc)
-read_apart messages i (asks.LowWater s l) q o (Some key) other sent is there = absurd (cc)
-read_apart messages i (asks.Checkpoint s l) q o (Some key) other sent is there = absurd (cc)
-read_apart messages i (asks.RedoEnd s) q o (Some key) other sent is there = absurd (cc)
-read_apart messages i (asks.StableEnd s stable) q o (Some key) other sent is there = absurd (cc)
-read_apart messages i r q o None other sent is there = absurd (cc)
+read_apart messages i (asks.Connect s end) q (Some key) other sent is there = absurd (cc)
+read_apart messages i (asks.Perform s n stable op) q (Some key) other sent is there = absurd (cc)
+read_apart messages i (asks.Scan s n lo hi) q (Some key) other sent is there = absurd (cc)
+read_apart messages i (asks.LowWater s l) q (Some key) other sent is there = absurd (cc)
+read_apart messages i (asks.Checkpoint s l) q (Some key) other sent is there = absurd (cc)
+read_apart messages i (asks.RedoEnd s) q (Some key) other sent is there = absurd (cc)
+read_apart messages i (asks.StableEnd s stable) q (Some key) other sent is there = absurd (cc)
+read_apart messages i r q None other sent is there = absurd (cc)
 
 -- a reply that answers, by the number and the answer
-pub answered_apart : (running i : ℕ) (messages : List Reply) (r : Reply) (n : ℕ) (a : Option Answer) (v : Option Bytes)
-    (other : Option Reply) → IsOfSession running messages i r → Some (n, a) ≡ answered_of r
-    → IsHeardApart running messages i (said.Answered n) a v other
+pub answered_apart : (running i : ℕ) (messages : List Reply) (r : Reply) (n : ℕ) (a : Option GivenAnswer)
+    (v : Option Bytes) (other : Option Reply) → IsOfSession running messages i r
+    → Some (n, option_map answer_given a) ≡ answered_of r
+    → IsHeardApart running messages i (said.Answered n a) v other
 answered_apart running i messages (says.Answered s m b) n a v other at is =
     let same = pair_is is in (
       s,
       subst (IsOfSession running messages i)
-          (sym (ap (λ (x : ℕ). says.Answered s x a) same.0 ∙ ap (λ (x : Option Answer). says.Answered s m x) same.1)) at,
+          (sym (ap (λ (x : ℕ). says.Answered s x (option_map answer_given a)) same.0
+          ∙ ap (λ (x : Option Answer). says.Answered s m x) same.1)) at,
     )
 answered_apart running i messages (says.Connected s) n a v other at is = absurd (cc)
 answered_apart running i messages (says.Row s m value) n a v other at is = absurd (cc)
@@ -101,17 +107,17 @@ answered_apart running i messages (says.Checkpointed s l) n a v other at is = ab
 answered_apart running i messages (says.RedoEnded s) n a v other at is = absurd (cc)
 
 -- a reply to a read of a key, by the number and the value
-pub found_apart : (running i : ℕ) (messages : List Reply) (r : Reply) (n : ℕ) (a : Option Answer) (v : Option Bytes)
+pub found_apart : (running i : ℕ) (messages : List Reply) (r : Reply) (n : ℕ) (v : Option Bytes)
     (other : Option Reply) → IsOfSession running messages i r → Some (n, v) ≡ found_of r
-    → IsHeardApart running messages i (said.Found n) a v other
-found_apart running i messages (says.Row s m w) n a v other at is =
+    → IsHeardApart running messages i (said.Found n) v other
+found_apart running i messages (says.Row s m w) n v other at is =
     let same = pair_is is in (
       s,
       subst (IsOfSession running messages i)
           (sym (ap (λ (x : ℕ). says.Row s x v) same.0 ∙ ap (λ (x : Option Bytes). says.Row s m x) same.1)) at,
     )
-found_apart running i messages (says.Connected s) n a v other at is = absurd (cc)
-found_apart running i messages (says.Answered s m b) n a v other at is = absurd (cc)
-found_apart running i messages (says.Rows s m rows) n a v other at is = absurd (cc)
-found_apart running i messages (says.Checkpointed s l) n a v other at is = absurd (cc)
-found_apart running i messages (says.RedoEnded s) n a v other at is = absurd (cc)
+found_apart running i messages (says.Connected s) n v other at is = absurd (cc)
+found_apart running i messages (says.Answered s m b) n v other at is = absurd (cc)
+found_apart running i messages (says.Rows s m rows) n v other at is = absurd (cc)
+found_apart running i messages (says.Checkpointed s l) n v other at is = absurd (cc)
+found_apart running i messages (says.RedoEnded s) n v other at is = absurd (cc)

@@ -1,3 +1,4 @@
 pub mod Apart
 pub mod Doing
 pub mod Framed
+mod Serving

@@ -1,3 +1,4 @@
 pub mod Seen
 pub mod Sent
 pub mod SentReads
+pub mod Served

@@ -1,7 +1,9 @@
 -- Messages kept as their frames, one after another in a buffer, with an index of the places of these.
-use Rattle.std.specs.Prelude.{◌≡◌, ℕ, ◌<◌, ◌^◌, Bool, true, false, List, Option, Some, None, ◌++◌, length, drop}
-use Rattle.record_key.specs.declared.op.Op.{Op}
+use Rattle.std.specs.Prelude.{◌≡◌, ℕ, ◌<◌, ◌^◌, Bool, true, false, List, [], ◌∷◌, Option, Some, None, ◌++◌, length, drop}
+use Rattle.std.specs.Option.{option_map}
 use Rattle.record_key.specs.declared.op.Answer.{Answer}
+use Rattle.record_key.specs.Lent.{op_on}
+use Rattle.codec.specs.Given.{answer_given}
 use Rattle.record_key.specs.Table.{Bytes}
 use Rattle.codec.specs.Parted.{request_to, get_of}
 use Rattle.codec.specs.Requests.{IsRequest}
@@ -76,22 +78,33 @@ pub record IsUnreadOf (running : ℕ) (messages : List Reply) (i : ℕ) (r : Ref
 abbrev pub WasSent : List Request → ℕ → Request → Type 0
 WasSent messages i q = (message_at messages i ≡ Some q) × IsRequest q
 
--- the request of this number: its operation apart, where it is to perform, its key, where it is to read one; else the
--- whole
-abbrev pub IsReadApart : List Request → ℕ → Asked → Option Op → Option Bytes → Option Request → Type 0
-IsReadApart messages i (asked.Perform q) (Some o) key other = WasSent messages i (request_to q o)
-IsReadApart messages i (asked.Get q) o (Some key) other = WasSent messages i (get_of q key)
-IsReadApart messages i asked.Other o key (Some q) = WasSent messages i q
-IsReadApart messages i _ o key other = ⊥
+-- the request of this number: its key apart, where it is to perform or to read one; else the whole
+abbrev pub IsReadApart : List Request → ℕ → Asked → Option Bytes → Option Request → Type 0
+IsReadApart messages i (asked.Perform q change) (Some key) other = WasSent messages i (request_to q (op_on key change))
+IsReadApart messages i (asked.Get q) (Some key) other = WasSent messages i (get_of q key)
+IsReadApart messages i asked.Other key (Some q) = WasSent messages i q
+IsReadApart messages i _ key other = ⊥
 
 -- the reply of this number is of the session that runs
 abbrev pub IsOfSession : ℕ → List Reply → ℕ → Reply → Type 0
 IsOfSession running messages i r = (message_at messages i ≡ Some r) × (is_of_another running (session_of r) ≡ false)
 
--- it is: its answer apart, where it answers, its value, where it is of a read; else the whole
-abbrev pub IsHeardApart : ℕ → List Reply → ℕ → Said → Option Answer → Option Bytes → Option Reply → Type 0
-IsHeardApart running messages i (said.Answered n) a v other =
-    (s : ℕ) × IsOfSession running messages i (says.Answered s n a)
-IsHeardApart running messages i (said.Found n) a v other = (s : ℕ) × IsOfSession running messages i (says.Row s n v)
-IsHeardApart running messages i said.Other a v (Some r) = IsOfSession running messages i r
-IsHeardApart running messages i said.Other a v None = ⊥
+-- it is: its answer lent, where it answers, its value apart, where it is of a read; else the whole
+abbrev pub IsHeardApart : ℕ → List Reply → ℕ → Said → Option Bytes → Option Reply → Type 0
+IsHeardApart running messages i (said.Answered n a) v other =
+    (s : ℕ) × IsOfSession running messages i (says.Answered s n (option_map answer_given a))
+IsHeardApart running messages i (said.Found n) v other = (s : ℕ) × IsOfSession running messages i (says.Row s n v)
+IsHeardApart running messages i said.Other v (Some r) = IsOfSession running messages i r
+IsHeardApart running messages i said.Other v None = ⊥
+
+-- the answer that the last reply tells, if it tells one
+abbrev pub told_in : Reply → Option Answer
+told_in (says.Answered s n a) = a
+told_in _ = None
+
+abbrev pub told_after : Option Answer → List Reply → Option Answer
+told_after a [] = a
+told_after a (r ∷ rs) = told_after (told_in r) rs
+
+abbrev pub told_last : List Reply → Option Answer
+told_last replies = told_after None replies

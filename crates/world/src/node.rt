@@ -6,16 +6,18 @@ ghost use Rattle.tc_core.specs.Kept.{IsTc};
 ghost use Rattle.node_laws.specs.Halves.{node_of, of_tc, IsNextNumber, BringsReply};
 ghost use Rattle.node_laws.specs.Kept.{IsKept};
 ghost use Rattle.world.specs.Seen.{seen};
-ghost use Rattle.world.specs.Sent.{WasSent};
+ghost use Rattle.record_key.specs.Lent.{op_lent};
 ghost use Rattle.codec.specs.Parted.{get_of, request_to};
+ghost use Rattle.codec.specs.Requests.{IsRequest};
+ghost use Rattle.dc_core.specs.Serves.{MayAsk};
+ghost use Rattle.world.specs.Served.{Served};
 
 use crate::attempt::attempt;
 use crate::sent::{Asked, Said, Sent};
 use codec::{Asking, Reading, Reply, Request};
-use dc_core::answer_of;
 use node_laws::{Event, Out};
 use node_sides::{DcSide, TcSide};
-use record_key::{Key, Op, Refusal};
+use record_key::{Key, OpRef, Refusal};
 use stable::{CrashLog, CrashPages, MemLog, MemPages};
 use std::alloc::Global;
 
@@ -126,11 +128,7 @@ impl<D: CrashLog, P: CrashPages> Node<D, P> {
         tc.kept();
         let (read, key) = tc.awaited_key(txn)?;
         let next = self.requests.next()?;
-        self.requests.push_reserved(&Request::Get {
-            session: tc.session(),
-            read,
-            key: key.copied(),
-        });
+        self.requests.push_get(tc.session(), read, key);
         Some(next)
     }
 
@@ -189,14 +187,13 @@ impl<D: CrashLog, P: CrashPages> Node<D, P> {
         ensures { StepsTo (seen self.old) (Event.Reply number) out.new (seen self.new) }
     {
         let session = attempt!(out, self.tc.session());
-        let (mut answer, mut value, mut other) = (None, None, None);
+        let (mut value, mut other) = (None, None);
         let said = attempt!(
             out,
-            self.replies
-                .read(number, session, &mut answer, &mut value, &mut other)
+            self.replies.read(number, session, &mut value, &mut other)
         );
         match (said, other) {
-            (Said::Answered(of), _) => self.tc.hear(of, &mut answer, out),
+            (Said::Answered(of, answer), _) => self.tc.hear(of, answer.as_ref(), out),
             (Said::Found(read), _) => self.tc.find(read, &mut value, out),
             (Said::Other, Some(reply)) => self.tc.take(reply, out),
             (Said::Other, None) => unreachable!(),
@@ -213,69 +210,73 @@ impl<D: CrashLog, P: CrashPages> Node<D, P> {
             *out = Out::Refused(Refusal::NotConnected);
             return;
         }
-        let (mut op, mut key, mut other) = (None, None, None);
-        let asked = attempt!(
-            out,
-            self.requests.read(number, &mut op, &mut key, &mut other)
-        );
-        match (asked, &op, &key, &other) {
-            (Asked::Perform(asking), Some(op), _, _) => self.serve_op(number, asking, op, out),
-            (Asked::Get(reading), _, Some(key), _) => self.serve_get(number, reading, key, out),
-            (Asked::Other, _, _, Some(request)) => self.serve_other(number, request, out),
+        let (mut key, mut other) = (None, None);
+        let asked = attempt!(out, self.requests.read(number, &mut key, &mut other));
+        let (dc, replies) = (&mut self.dc, &mut self.replies);
+        match (asked, &key, &other) {
+            (Asked::Perform(asking, change), Some(key), _) => {
+                serve_op(dc, replies, asking, &OpRef { key, change }, out);
+            }
+            (Asked::Get(reading), Some(key), _) => serve_get(dc, replies, reading, key, out),
+            (Asked::Other, _, Some(request)) => serve_other(dc, replies, request, out),
             _ => unreachable!(),
         }
     }
+}
 
-    /// It is to read this key.
-    fn serve_get(&mut self, number: u64, reading: Reading, key: &Key, out: &mut Out)
-        requires sent { WasSent (seen self.old).requests number (get_of reading key.now) }
-        ensures { StepsTo (seen self.old) (Event.Request number) out.new (seen self.new) }
-    {
-        let next = self.replies.next();
-        let found = attempt!(out, self.dc.get(reading.session, key));
-        let reply = attempt!(out, next.ok_or(Refusal::NoMemory));
-        let value = match found {
-            Some(value) => Some(value.copied()),
-            None => None,
-        };
-        self.replies.push_reserved(&Reply::Row {
-            session: reading.session,
-            read: reading.read,
-            value,
-        });
-        *out = Out::Replied(reply);
-    }
+/// The data component is to read this key.
+fn serve_get<D: CrashLog, P: CrashPages>(
+    dc: &mut DcSide<D, P>,
+    replies: &mut Sent<Reply>,
+    reading: Reading,
+    key: &Key,
+    out: &mut Out,
+)
+    requires spelled { IsRequest (get_of reading key.now) }
+    ensures { Served dc.old replies.old.messages (get_of reading key.now) out.new dc.new replies.new.messages }
+{
+    let next = replies.next();
+    let found = attempt!(out, dc.get(reading.session, key));
+    let reply = attempt!(out, next.ok_or(Refusal::NoMemory));
+    replies.push_found(reading.session, reading.read, found);
+    *out = Out::Replied(reply);
+}
 
-    /// It is to perform this operation.
-    fn serve_op(&mut self, number: u64, asking: Asking, op: &Op, out: &mut Out)
-        requires kept { IsKept (seen self.old) }
-        requires sent { WasSent (seen self.old).requests number (request_to asking op.now) }
-        ensures { StepsTo (seen self.old) (Event.Request number) out.new (seen self.new) }
-    {
-        let next = self.replies.next();
-        let mut done = Err(Refusal::NoMemory);
-        self.dc.perform(asking, op, next, &mut done, out);
-        if let Ok(done) = &done {
-            self.replies
-                .push_answered(asking.session, asking.number, answer_of(done));
-        }
-    }
+/// It is to perform this operation. Its answer goes from the leaf into the reply.
+fn serve_op<D: CrashLog, P: CrashPages>(
+    dc: &mut DcSide<D, P>,
+    replies: &mut Sent<Reply>,
+    asking: Asking,
+    op: &OpRef<'_>,
+    out: &mut Out,
+)
+    requires spelled { IsRequest (request_to asking (op_lent op.now)) }
+    requires owed { MayAsk dc.old.dc (request_to asking (op_lent op.now)) }
+    ensures { Served dc.old replies.old.messages (request_to asking (op_lent op.now)) out.new dc.new replies.new.messages }
+{
+    let next = replies.next();
+    let _replied = dc.perform(asking, op, next, replies, out);
+}
 
-    /// It is this one.
-    fn serve_other(&mut self, number: u64, request: &Request, out: &mut Out)
-        requires kept { IsKept (seen self.old) }
-        requires sent { WasSent (seen self.old).requests number request.now }
-        ensures { StepsTo (seen self.old) (Event.Request number) out.new (seen self.new) }
-    {
-        let next = self.replies.next();
-        let mut reply = None;
-        self.dc.serve(request, next, &mut reply, out);
-        let Some(reply) = &reply else {
-            return;
-        };
-        // Only rows may lack room, and whoever reads them changes nothing.
-        attempt!(out, self.replies.push(reply));
-    }
+/// It is asked something else.
+fn serve_other<D: CrashLog, P: CrashPages>(
+    dc: &mut DcSide<D, P>,
+    replies: &mut Sent<Reply>,
+    request: &Request,
+    out: &mut Out,
+)
+    requires spelled { IsRequest request.now }
+    requires owed { MayAsk dc.old.dc request.now }
+    ensures { Served dc.old replies.old.messages request.now out.new dc.new replies.new.messages }
+{
+    let next = replies.next();
+    let mut reply = None;
+    dc.serve(request, next, &mut reply, out);
+    let Some(reply) = &reply else {
+        return;
+    };
+    // Only rows may lack room, and whoever reads them changes nothing.
+    attempt!(out, replies.push(reply));
 }
 
 /// The number of the request that the event may send; room for it is made.

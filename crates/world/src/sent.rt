@@ -1,6 +1,7 @@
 //! Messages as they were sent: their frames one after another in one buffer, and an index of places. What was sent
 //! stays: a message may be delivered any number of times, late, or never.
-ghost use Rattle.std.specs.Option.{option_copied};
+ghost use Rattle.std.specs.Option.{option_copied, option_map};
+ghost use Rattle.record_key.specs.Lent.{answer_lent};
 ghost use Rattle.std.specs.Prelude.{◌≡◌, ◌<◌, ◌≤◌, ◌++◌, ◌∷◌, ◌⊎◌, [], true, false, length, None, Some, IfOk, IfErr, OnOk, OnErr, OnSome};
 ghost use Rattle.record_key.specs.declared.op.Op.{Op};
 ghost use Rattle.codec.specs.declared.request.Request.TheVariants as asks;
@@ -15,10 +16,11 @@ ghost use Rattle.world.specs.Sent.{IsReadApart, IsHeardApart, IsStale, IsUnreadO
 
 use crate::message::{Message, reply_at, request_at, session_at};
 use codec::{
-    Asking, FrameIndex, Reading, Reply, Request, answered_at, asking_at, found_at, put_answered,
-    put_perform, reading_at,
+    Asking, FrameIndex, GivenAnswer, Reading, Reply, Request, answered_at, asking_at, found_at,
+    put_answered, put_found, put_get, put_perform, reading_at,
 };
-use record_key::{Answer, Key, Op, Refusal, Value};
+use page::AnswerSink;
+use record_key::{AnswerRef, Change, Key, Refusal, Value};
 use std::alloc::Global;
 use std::marker::{Model, PhantomData};
 
@@ -118,35 +120,59 @@ impl<M: Message> Sent<M> {
     }
 }
 
-/// What a request asks, of which what is large is kept apart.
-pub(crate) enum Asked {
-    Perform(Asking),
+/// What a request asks: what it does to a key's record is lent, and the key is kept apart.
+pub(crate) enum Asked<'a> {
+    Perform(Asking, Change<'a>),
     Get(Reading),
     Other,
 }
 
 impl Sent<Request> {
-    /// The request of this number, from 1: the operation of one to perform is put in `op`, the key of one to read in `key`,
-    /// any other in `other`. Refused Unsent where there is none. Takes no memory.
+    /// The request of this number, from 1: the key of one to perform or to read is put in `key`, any other in `other`.
+    /// Refused Unsent where there is none. Takes no memory.
     pub(crate) fn read(
         &self,
         number: u64,
-        op: &mut Option<Op>,
         key: &mut Option<Key>,
         other: &mut Option<Request>,
-    ) -> Result<Asked, Refusal>
-        ensures read { IfOk result (λ asked. IsReadApart self.now.messages number asked op.new key.new other.new) }
+    ) -> Result<Asked<'_>, Refusal>
+        ensures read { IfOk result (λ asked. IsReadApart self.now.messages number asked key.new other.new) }
         ensures refused { IfErr result (IsUnsent self.now.messages number) }
     {
         let place = place_of(&self.index, &self.bytes, number)?;
-        if let Some(asking) = asking_at(&self.bytes, place, op) {
-            return Ok(Asked::Perform(asking));
+        if let Some((asking, change)) = asking_at(&self.bytes, place, key) {
+            return Ok(Asked::Perform(asking, change));
         }
         if let Some(reading) = reading_at(&self.bytes, place, key) {
             return Ok(Asked::Get(reading));
         }
         *other = Some(request_at(&self.bytes, place));
         Ok(Asked::Other)
+    }
+
+    /// Appends a request to read this key, for which there is room.
+    pub(crate) fn push_get(&mut self, session: u64, read: u64, key: &Key)
+        requires numbers { IsNumber session × IsNumber read }
+        requires room { self.old.has_room ≡ true }
+        ensures { self.new.messages ≡ self.old.messages ++ asks.Get session read key.now ∷ [] }
+    {
+        match self.add_get(session, read, key) {
+            Ok(()) => {}
+            Err(_) => unreachable!(),
+        }
+    }
+
+    fn add_get(&mut self, session: u64, read: u64, key: &Key) -> Result<(), Refusal>
+        requires numbers { IsNumber session × IsNumber read }
+        ensures appended { OnOk result (self.new.messages
+            ≡ self.old.messages ++ asks.Get session read key.now ∷ []) }
+        ensures room { OnErr result (self.old.has_room ≡ true → ⊥) }
+    {
+        self.index.reserve()?;
+        let place = self.bytes.len();
+        put_get(&mut self.bytes, session, read, key)?;
+        self.index.push_reserved(place);
+        Ok(())
     }
 
     /// Appends a request to perform the operation that these bytes spell, for which there is room.
@@ -184,27 +210,27 @@ impl Sent<Request> {
     }
 }
 
-/// What a reply says, of which what is large is kept apart: the number of the operation or of the read.
-pub(crate) enum Said {
-    Answered(u64),
+/// What a reply says: the number of the operation, and its answer, lent; or the number of the read, whose value is kept
+/// apart.
+pub(crate) enum Said<'a> {
+    Answered(u64, Option<GivenAnswer<'a>>),
     Found(u64),
     Other,
 }
 
 impl Sent<Reply> {
-    /// The reply of this number, from 1, if it is of the session that runs: the answer of one that answers is put in
-    /// `answer`, the value of one to a read in `value`, any other in `other`. Refused Unsent where there is none, Stale where
-    /// it isn't, and NoMemory for rows alone.
+    /// The reply of this number, from 1, if it is of the session that runs: the value of one to a read is put in `value`,
+    /// any other than that or an answer in `other`. Refused Unsent where there is none, Stale where it isn't, and NoMemory
+    /// for rows alone.
     pub(crate) fn read(
         &self,
         number: u64,
         running: u64,
-        answer: &mut Option<Answer>,
         value: &mut Option<Value>,
         other: &mut Option<Reply>,
-    ) -> Result<Said, Refusal>
+    ) -> Result<Said<'_>, Refusal>
         ensures read { IfOk result (λ said.
-            IsHeardApart running self.now.messages number said answer.new value.new other.new) }
+            IsHeardApart running self.now.messages number said value.new other.new) }
         ensures refused { IfErr result (λ refusal. IsUnsent self.now.messages number refusal
             ⊎ (IsStale running self.now.messages number refusal
             ⊎ IsUnreadOf running self.now.messages number refusal)) }
@@ -213,8 +239,8 @@ impl Sent<Reply> {
         if running == 0 || session_at(&self.bytes, place) != running {
             return Err(Refusal::Stale);
         }
-        if let Some(of) = answered_at(&self.bytes, place, answer) {
-            return Ok(Said::Answered(of));
+        if let Some((of, answer)) = answered_at(&self.bytes, place) {
+            return Ok(Said::Answered(of, answer));
         }
         if let Some(read) = found_at(&self.bytes, place, value) {
             return Ok(Said::Found(read));
@@ -229,11 +255,11 @@ impl Sent<Reply> {
     }
 
     /// Appends the reply that answers an operation so, for which there is room.
-    pub(crate) fn push_answered(&mut self, session: u64, number: u64, answer: Option<&Answer>)
+    fn push_answered(&mut self, session: u64, number: u64, answer: Option<&AnswerRef<'_>>)
         requires numbers { IsNumber session × IsNumber number }
         requires room { self.old.has_room ≡ true }
-        ensures { self.new.messages
-            ≡ self.old.messages ++ says.Answered session number (option_copied answer.entry) ∷ [] }
+        ensures { self.new.messages ≡ self.old.messages
+            ++ says.Answered session number (option_map answer_lent (option_copied answer.entry)) ∷ [] }
     {
         match self.add_answered(session, number, answer) {
             Ok(()) => {}
@@ -245,11 +271,11 @@ impl Sent<Reply> {
         &mut self,
         session: u64,
         number: u64,
-        answer: Option<&Answer>,
+        answer: Option<&AnswerRef<'_>>,
     ) -> Result<(), Refusal>
         requires numbers { IsNumber session × IsNumber number }
-        ensures appended { OnOk result (self.new.messages
-            ≡ self.old.messages ++ says.Answered session number (option_copied answer.entry) ∷ []) }
+        ensures appended { OnOk result (self.new.messages ≡ self.old.messages
+            ++ says.Answered session number (option_map answer_lent (option_copied answer.entry)) ∷ []) }
         ensures room { OnErr result (self.old.has_room ≡ true → ⊥) }
     {
         self.index.reserve()?;
@@ -257,6 +283,50 @@ impl Sent<Reply> {
         put_answered(&mut self.bytes, session, number, answer)?;
         self.index.push_reserved(place);
         Ok(())
+    }
+
+    /// Appends the reply to a read of a key, which found this value, for which there is room.
+    pub(crate) fn push_found(&mut self, session: u64, read: u64, value: Option<&Value>)
+        requires numbers { IsNumber session × IsNumber read }
+        requires room { self.old.has_room ≡ true }
+        ensures { self.new.messages
+            ≡ self.old.messages ++ says.Row session read (option_copied value.entry) ∷ [] }
+    {
+        match self.add_found(session, read, value) {
+            Ok(()) => {}
+            Err(_) => unreachable!(),
+        }
+    }
+
+    fn add_found(&mut self, session: u64, read: u64, value: Option<&Value>) -> Result<(), Refusal>
+        requires numbers { IsNumber session × IsNumber read }
+        ensures appended { OnOk result (self.new.messages
+            ≡ self.old.messages ++ says.Row session read (option_copied value.entry) ∷ []) }
+        ensures room { OnErr result (self.old.has_room ≡ true → ⊥) }
+    {
+        self.index.reserve()?;
+        let place = self.bytes.len();
+        put_found(&mut self.bytes, session, read, value)?;
+        self.index.push_reserved(place);
+        Ok(())
+    }
+}
+
+impl AnswerSink for Sent<Reply> {
+    ghost use Rattle.std.specs.Prelude.{◌≡◌, ◌++◌, ◌∷◌, [], true};
+    ghost use Rattle.codec.specs.Fields.{IsNumber};
+    ghost use Rattle.codec.specs.declared.reply.Reply.TheVariants as says;
+    ghost use Rattle.world.specs.Sent.{told_last};
+
+    ghost may_take = { λ sent session number. (IsNumber session × IsNumber number) × (sent.has_room ≡ true) };
+
+    ghost told = { λ sent. told_last sent.messages };
+
+    ghost takes = { λ old session number answer new.
+        new.messages ≡ old.messages ++ says.Answered session number answer ∷ [] };
+
+    fn take(&mut self, asker: u64, number: u64, answer: Option<&AnswerRef<'_>>) {
+        self.push_answered(asker, number, answer);
     }
 }
 

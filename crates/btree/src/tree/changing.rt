@@ -1,5 +1,6 @@
 //! Leaves changed in their place, by the nodes above them.
-ghost use Rattle.std.specs.Prelude.{◌≡◌, ◌<◌, ◌^◌, false, length, get_or, IsOkUnless};
+ghost use Rattle.std.specs.Prelude.{◌≡◌, ◌<◌, ◌^◌, false, length, get_or, OnOk, OnErr, IsOkUnless};
+ghost use Rattle.record_key.specs.Lent.{op_lent};
 ghost use Rattle.record_key.specs.Table.{key_of};
 ghost use Rattle.page.specs.Leaf.{first};
 ghost use Rattle.page.specs.Parting.{lower_of};
@@ -11,39 +12,58 @@ ghost use Rattle.btree.specs.Performs.{IsAskedBelow};
 use super::children::{node_at, node_of, renew_after, summary_in};
 use super::node::{Below, Node};
 use super::summary::Summary;
-use page::{Done, Leaf};
-use record_key::{Key, Op, Refusal};
+use page::{AnswerSink, Done, Leaf};
+use record_key::{Key, OpRef, Refusal};
 
 impl Node {
     /// The leaf of the key performs the operation: the last one that begins at it or below, or the first leaf.
-    pub fn perform(&mut self, number: u64, op: &Op) -> Result<Done, Refusal>
+    pub fn perform<S: AnswerSink>(
+        &mut self,
+        number: u64,
+        op: &OpRef<'_>,
+        asker: u64,
+        sink: &mut S,
+    ) -> Result<Done, Refusal>
         requires whole { IsWhole self.old }
-        requires inside { IsInside self.old.leaves (key_of op.now) }
-        ensures asked { IsAskedBelow self.old number op.now result self.new }
+        requires inside { IsInside self.old.leaves (key_of (op_lent op.now)) }
+        requires may { S.may_take sink.old asker number }
+        ensures asked { IsAskedBelow self.old number (op_lent op.now) result (S.told sink.new) self.new }
+        ensures given { OnOk result (S.takes sink.old asker number (S.told sink.new) sink.new) }
+        ensures kept { OnErr result (sink.new ≡ sink.old) }
         ensures memory { IsOkUnless result Refusal.NoMemory }
     {
         let mut done = Err(Refusal::NoMemory);
-        self.perform_into(number, op, &mut done);
+        self.perform_into(number, op, asker, sink, &mut done);
         done
     }
 
-    /// The same, with what came of it written where the caller has a place for it, since each level that handed it up
-    /// would copy it. Whether the node's summary is another now: if not, those above it stay.
-    fn perform_into(&mut self, number: u64, op: &Op, done: &mut Result<Done, Refusal>) -> bool
+    /// The same, with what came of it written where the caller has a place for it, and whether the node's summary is
+    /// another now given back: if not, those above it stay.
+    fn perform_into<S: AnswerSink>(
+        &mut self,
+        number: u64,
+        op: &OpRef<'_>,
+        asker: u64,
+        sink: &mut S,
+        done: &mut Result<Done, Refusal>,
+    ) -> bool
         requires whole { IsWhole self.old }
-        requires inside { IsInside self.old.leaves (key_of op.now) }
-        ensures asked { IsAskedBelow self.old number op.now done.new self.new }
+        requires inside { IsInside self.old.leaves (key_of (op_lent op.now)) }
+        requires may { S.may_take sink.old asker number }
+        ensures asked { IsAskedBelow self.old number (op_lent op.now) done.new (S.told sink.new) self.new }
+        ensures given { OnOk done.new (S.takes sink.old asker number (S.told sink.new) sink.new) }
+        ensures kept { OnErr done.new (sink.new ≡ sink.old) }
         ensures memory { IsOkUnless done.new Refusal.NoMemory }
         ensures same { result ≡ false → summary_of self.new.leaves ≡ summary_of self.old.leaves }
     {
         match &mut self.below {
             Below::Leaf(leaf) => {
-                *done = leaf.perform(number, op);
+                *done = leaf.perform(number, op, asker, sink);
                 self.summary.renew(Summary::of_leaf(leaf))
             }
             Below::Inner(children) => {
                 let i = node_of(children.as_slice(), op.key());
-                if !children[i].perform_into(number, op, done) {
+                if !children[i].perform_into(number, op, asker, sink, done) {
                     return false;
                 }
                 renew_after(&mut self.summary, children.as_slice(), i)

@@ -18,5 +18,5 @@ returns-in_ok-insert-in-Err-clause-placed c =
       lt-ltb c.args.low c.args.entry.now.number c.if-entry-low.false,
       gap_stands c.args.entry.now.number c.args.low c.args.entries.now c.in-Err.gap c.requires c.in-Err.ensures.place,
     )
-    (c.in_ok-insert-in-Err.ensures.inserted
+    ((rw (c.lent.ensures) at c.in_ok-insert-in-Err.ensures.inserted)
     ∙ sym (gap_placed c.args.entry.now c.args.entries.now c.in-Err.gap c.in-Err.ensures.place))

@@ -19,5 +19,5 @@ returns-in-Short c = record {
   asked = λ r rest fits e.
       absurd (not_taken _ _ _ _ c.in-Short.is
       (c.take_body.ensures ∙ request_framed r c.args.at (drop c.args.at c.args.bytes.now) rest fits e));
-  op = tt;
+  key = tt;
 }

@@ -1,11 +1,10 @@
-use Rattle.std.proofs.Common.{sym, ap, ◌∙◌, Some}
+use Rattle.std.proofs.Common.{sym}
 use Rattle.record_key.proofs.Rows.{found, absent}
 use Rattle.page.proofs.rows.value_at.Goals as goal
 
 pub returns-in-Ok : goal.returns-in-Ok
 returns-in-Ok c =
-    ap Some c.copied.ensures
-    ∙ sym (found c.args.rows.now c.requires.ordered c.args.key.now c.in-Ok.at c.index-rows-at.result
+    sym (found c.args.rows.now c.requires.ordered c.args.key.now c.in-Ok.at c.index-rows-at.result
     (rw c.in-Ok.is at c.requires.place))
 
 pub returns-in-Err : goal.returns-in-Err

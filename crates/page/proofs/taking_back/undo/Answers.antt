@@ -10,4 +10,4 @@ returns-clause-undone c =
     rw (c.as_slice.ensures.value, c.in_ok-reserve.ensures.items, c.key.ensures) at c.place_of-place.ensures.place in
     undone_rows c.args.end c.args.rows.now.items c.write_at.new.rows.items c.args.entry.now c.in-Some.op
     c.place_of-place.result c.requires (omega (arith, c.if-entry-end.false)) (sym c.inverse_on.ensures ∙ c.in-Some.is)
-    place (rw (c.in_ok-reserve.ensures.items) at c.write_at.ensures)
+    place (rw (c.lent.ensures, c.in_ok-reserve.ensures.items) at c.write_at.ensures)

@@ -1,4 +1,4 @@
-use Rattle.std.proofs.Common.{◌++◌, length, ap, ◌∙◌, sym, arith, append-nil}
+use Rattle.std.proofs.Common.{◌++◌, ap, ◌∙◌, sym, arith, append-nil}
 use Rattle.btree.specs.Nodes.{TreeNodeView, under}
 use Rattle.btree.proofs.Under.{count_inserted, under_halves}
 use Rattle.btree.proofs.tree.growing.add.Goals as goal

@@ -1,4 +1,4 @@
-use Rattle.std.proofs.Common.{◌≡◌, ℕ, refl, ap, ◌∙◌}
+use Rattle.std.proofs.Common.{◌≡◌, ℕ, Some, refl, ap, ◌∙◌}
 use Rattle.record_key.specs.declared.op.Op.{Op}
 use Rattle.record_key.specs.declared.op.Answer.{Answer}
 use Rattle.record_key.specs.Table.{Table, key_of, answer_at, answer_in, after}
@@ -7,7 +7,7 @@ use Rattle.record_key.specs.Order.{is_between}
 use Rattle.record_key.specs.Rows.{IsPlaceOf, table_of}
 use Rattle.ab_lsn.specs.AbLsn.{AbLsnView, noted}
 use Rattle.page.specs.Leaf.{LeafView, is_in_fences, performed}
-use Rattle.page.specs.declared.leaf.Done.TheVariants.{Performed}
+use Rattle.record_key.specs.Lent.{op_lent, answer_lent}
 use Rattle.record_key.specs.Table.{Bytes}
 use Rattle.record_key.specs.declared.entry.Entry.{Entry}
 use Rattle.page.proofs.Writes.{Writes, writes, all_written}
@@ -15,20 +15,21 @@ use Rattle.page.proofs.Performing.{all_placed}
 use Rattle.page.proofs.leaf.Leaf.perform_new.Goals as goal
 
 pub invariant_of-self-2 : goal.invariant_of-self-2
-invariant_of-self-2 c =
-    let place : IsPlaceOf (key_of c.args.op.now) c.self.inside.rows.items c.place_of-place.result =
-    rw (c.as_slice.ensures.value, c.key.ensures) at c.place_of-place.ensures.place in
+invariant_of-self-2 g c =
+    let o = op_lent c.args.op.now in
+    let place : IsPlaceOf (key_of o) c.self.inside.rows.items c.place_of-place.result =
+    rw (c.as_slice.ensures.value, c.in_ok-reserve.ensures.items, c.key.ensures) at c.place_of-place.ensures.place in
     let low = c.self.inside.low_fence in
     let high = c.self.inside.high_fence in
-    let inside : IsTrue (is_between low high (key_of c.args.op.now)) =
-    ap (λ (v : LeafView). is_in_fences v (key_of c.args.op.now)) c.self.view_is ∙ c.requires.within in
+    let inside : IsTrue (is_between low high (key_of o)) =
+    ap (λ (v : LeafView). is_in_fences v (key_of o)) c.self.view_is ∙ c.requires.within in
     rw (c.write_at.ensures, c.in_ok-reserve.ensures.items, c.in_ok-note.ensures.noted, c.key-3.ensures) (
-      (writes c.self.inside.rows.items c.args.op.now c.place_of-place.result c.self.invariant.0 place).ordered,
+      (writes c.self.inside.rows.items o c.place_of-place.result c.self.invariant.0 place).ordered,
       (
-        all_written (λ (k : Bytes). IsTrue (is_between low high k)) c.self.inside.rows.items c.args.op.now
-            c.place_of-place.result c.self.invariant.1.0 inside,
+        all_written (λ (k : Bytes). IsTrue (is_between low high k)) c.self.inside.rows.items o c.place_of-place.result
+            c.self.invariant.1.0 inside,
         all_placed (λ (e : Entry). IsTrue (is_between low high e.key))
-            (record { number = c.args.number; key = key_of c.args.op.now; answer = c.answer_at-answer.result })
+            (record { number = c.args.number; key = key_of o; answer = answer_lent c.answer_at-answer.result })
             c.self.inside.ab.entries inside c.self.invariant.1.1,
       ),
     )
@@ -40,24 +41,28 @@ anew : (old : LeafView) (n : ℕ) (o : Op) (a : Answer) (rows : Table) (ab : AbL
 anew old n o a rows ab right table more =
     λ i. record old { rows = table i; ab = (more ∙ ap (noted old.ab n (key_of o)) right) i }
 
+-- the answer is the one that the rows give
+right : (g : _) (c : goal.After-write_at g) → answer_lent c.answer_at-answer.result
+    ≡ answer_in (table_of c.self.inside.rows.items) (op_lent c.args.op.now)
+right g c =
+    c.answer_at-answer.ensures
+    ∙ ap (answer_at (op_lent c.args.op.now))
+    (c.value_at.ensures ∙ rw (c.as_slice-2.ensures.value, c.in_ok-reserve.ensures.items, c.key-2.ensures) refl)
+
 pub returns-clause-answer : goal.returns-clause-answer
-returns-clause-answer c =
-    rw (← c.self.view_is)
-    (ap Performed (c.answer_at-answer.ensures
-    ∙ ap (answer_at c.args.op.now) (c.value_at.ensures ∙ rw (c.as_slice-2.ensures.value, c.key-2.ensures) refl)))
+returns-clause-answer g c = rw (← c.self.view_is) (c.take.ensures.told ∙ ap Some (right g c))
 
 pub returns-clause-performed : goal.returns-clause-performed
-returns-clause-performed c =
-    let place : IsPlaceOf (key_of c.args.op.now) c.self.inside.rows.items c.place_of-place.result =
-    rw (c.as_slice.ensures.value, c.key.ensures) at c.place_of-place.ensures.place in
-    let written : Writes c.self.inside.rows.items c.write_at.new.rows.items c.args.op.now =
+returns-clause-performed g c =
+    let o = op_lent c.args.op.now in
+    let answer = answer_lent c.answer_at-answer.result in
+    let place : IsPlaceOf (key_of o) c.self.inside.rows.items c.place_of-place.result =
+    rw (c.as_slice.ensures.value, c.in_ok-reserve.ensures.items, c.key.ensures) at c.place_of-place.ensures.place in
+    let written : Writes c.self.inside.rows.items c.write_at.new.rows.items o =
     rw (c.write_at.ensures, c.in_ok-reserve.ensures.items)
-    (writes c.self.inside.rows.items c.args.op.now c.place_of-place.result c.self.invariant.0 place) in
-    let answer : c.answer_at-answer.result ≡ answer_in (table_of c.self.inside.rows.items) c.args.op.now =
-    c.answer_at-answer.ensures
-    ∙ ap (answer_at c.args.op.now) (c.value_at.ensures ∙ rw (c.as_slice-2.ensures.value, c.key-2.ensures) refl) in
-    let more : c.note.new.self ≡ noted c.self.inside.ab c.args.number (key_of c.args.op.now) c.answer_at-answer.result =
+    (writes c.self.inside.rows.items o c.place_of-place.result c.self.invariant.0 place) in
+    let more : c.note.new.self ≡ noted c.self.inside.ab c.args.number (key_of o) answer =
     rw (c.key-3.ensures) at c.in_ok-note.ensures.noted in
     rw (← c.self.view_is)
-    (anew _ c.args.number c.args.op.now c.answer_at-answer.result (table_of c.write_at.new.rows.items) c.note.new.self
-    answer written.table more)
+    (anew _ c.args.number o answer (table_of c.write_at.new.rows.items) c.note.new.self (right g c)
+    written.table more)

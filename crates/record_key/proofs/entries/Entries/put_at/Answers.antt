@@ -1,5 +1,6 @@
 use Rattle.std.proofs.Common.{◌≡◌, ◌∙◌, length, ap, vec_len, arith}
 use Rattle.std.proofs.lemmas.Grind.{common_steps}
+use Rattle.record_key.specs.Lent.{answer_lent}
 use Rattle.record_key.proofs.Packing.{put_filled, put_listed}
 use Rattle.record_key.proofs.entries.Entries.put_at.Goals as goal
 
@@ -12,10 +13,10 @@ pub invariant_of-self-2 : goal.invariant_of-self-2
 invariant_of-self-2 c =
     rw (c.in_ok-insert.ensures.ok, c.put.ensures.packed, c.in_ok-reserve.ensures.items)
     (put_filled c.self.inside.bytes.items c.self.inside.slots.items c.self.invariant c.args.at c.args.number
-    c.len-place.result (ends c) c.args.key.now c.args.answer.now c.put.ensures.lengths)
+    c.len-place.result (ends c) c.args.key.now (answer_lent c.args.answer.now) c.put.ensures.lengths)
 
 pub returns-clause-inserted : goal.returns-clause-inserted
 returns-clause-inserted c =
     rw (← c.self.view_is, c.in_ok-insert.ensures.ok, c.put.ensures.packed, c.in_ok-reserve.ensures.items)
     (put_listed c.self.inside.bytes.items c.self.inside.slots.items c.self.invariant c.args.at c.args.number
-    c.len-place.result (ends c) c.args.key.now c.args.answer.now c.put.ensures.lengths)
+    c.len-place.result (ends c) c.args.key.now (answer_lent c.args.answer.now) c.put.ensures.lengths)

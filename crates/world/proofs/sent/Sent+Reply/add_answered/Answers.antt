@@ -1,6 +1,7 @@
 use Rattle.std.proofs.Common.{◌≡◌, ◌∙◌, ℕ, ◌+◌, ◌<◌, ◌^◌, [], ◌∷◌, ◌++◌, ap, arith, length}
 use Rattle.std.proofs.lemmas.Grind.{common_steps}
-use Rattle.std.specs.Option.{option_copied}
+use Rattle.std.specs.Option.{option_copied, option_map}
+use Rattle.record_key.specs.Lent.{answer_lent}
 use Rattle.codec.specs.declared.reply.Reply.{Reply}
 use Rattle.codec.specs.declared.reply.Reply.TheVariants as says
 use Rattle.codec.specs.Marks.{marked}
@@ -31,7 +32,7 @@ count_is c = c.push_reserved.ensures.count ∙ ap (λ (n : ℕ). n + 1) c.in_ok-
 
 -- the reply with this answer
 abbrev reply : (c : goal.After-push_reserved) → Reply
-reply c = says.Answered c.args.session c.args.number (option_copied c.args.answer)
+reply c = says.Answered c.args.session c.args.number (option_map answer_lent (option_copied c.args.answer))
 
 is_framed : (c : goal.After-push_reserved) → IsFramedReply (reply c)
 is_framed c = (c.put_answered.ensures.has_spelling, omega (arith, c.put_answered.ensures.short))

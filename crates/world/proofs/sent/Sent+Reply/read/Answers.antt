@@ -36,7 +36,7 @@ returns-in-Some-clause-read c =
     let is = reply_found m.bytes.items m.index.marks v m.index.count c.args.number place c.self.invariant
     (rw c.deref.ensures.value at c.in_ok-place.ensures.found)
     (ap (λ (w : SentView Reply). w.messages) c.self.view_is) in
-    answered_apart c.args.running c.args.number v.messages is.there.message c.in-Some.of c.answered_at.new.answer
+    answered_apart c.args.running c.args.number v.messages is.there.message c.in-Some.of c.in-Some.answer
     c.args.value.now c.args.other.now
     (of_session m.bytes.items v.messages c.args.running c.args.number place is (search rules))
     (c.in-Some.ensures is.there.message is.there.rest is.there.fits.0
@@ -51,7 +51,7 @@ returns-in-Some-found_at-clause-read c =
     (rw c.deref.ensures.value at c.in_ok-place.ensures.found)
     (ap (λ (w : SentView Reply). w.messages) c.self.view_is) in
     found_apart c.args.running c.args.number v.messages is.there.message c.in-Some-found_at.read
-    c.answered_at.new.answer c.found_at.new.value c.args.other.now
+    c.found_at.new.value c.args.other.now
     (of_session m.bytes.items v.messages c.args.running c.args.number place is (search rules))
     (c.in-Some-found_at.ensures is.there.message is.there.rest is.there.fits.0
     (ap (drop place) c.deref-3.ensures.value ∙ is.there.parts))

@@ -25,11 +25,11 @@ returns-in-Some-clause-read c =
     let is = request_found m.bytes.items m.index.marks v m.index.count c.args.number place c.self.invariant
     (rw c.deref.ensures.value at c.in_ok-place.ensures.found)
     (ap (λ (w : SentView Request). w.messages) c.self.view_is) in
-    asked_apart v.messages c.args.number is.there.message c.in-Some.asking c.asking_at.new.op c.args.key.now
-    c.args.other.now (is.at, is.there.fits)
+    asked_apart v.messages c.args.number is.there.message c.in-Some.asking c.in-Some.change
+    c.asking_at.new.key c.args.other.now (is.at, is.there.fits)
     (c.in-Some.ensures.asked is.there.message is.there.rest is.there.fits
     (ap (drop place) c.deref-2.ensures.value ∙ is.there.parts))
-    c.in-Some.ensures.op
+    c.in-Some.ensures.key
 
 pub returns-in-Some-reading_at-clause-read : goal.returns-in-Some-reading_at-clause-read
 returns-in-Some-reading_at-clause-read c =
@@ -39,7 +39,7 @@ returns-in-Some-reading_at-clause-read c =
     let is = request_found m.bytes.items m.index.marks v m.index.count c.args.number place c.self.invariant
     (rw c.deref.ensures.value at c.in_ok-place.ensures.found)
     (ap (λ (w : SentView Request). w.messages) c.self.view_is) in
-    read_apart v.messages c.args.number is.there.message c.in-Some-reading_at.reading c.asking_at.new.op
+    read_apart v.messages c.args.number is.there.message c.in-Some-reading_at.reading
     c.reading_at.new.key c.args.other.now (is.at, is.there.fits)
     (c.in-Some-reading_at.ensures.asked is.there.message is.there.rest is.there.fits
     (ap (drop place) c.deref-3.ensures.value ∙ is.there.parts))

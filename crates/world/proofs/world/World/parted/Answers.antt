@@ -1,8 +1,6 @@
-use Rattle.std.proofs.Common.{◌≡◌, ◌∙◌, ap, sym}
+use Rattle.std.proofs.Common.{◌∙◌, ap, sym}
 use Rattle.node_laws.specs.Halves.{node_of}
-use Rattle.node_laws.specs.Kept.{IsKept}
 use Rattle.node_laws.specs.Node.{NodeView}
-use Rattle.world.specs.Seen.{seen}
 use Rattle.world.proofs.world.World.parted.Goals as goal
 
 pub returns-clause-node : goal.returns-clause-node
