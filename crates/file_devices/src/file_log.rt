@@ -4,7 +4,7 @@ ghost use Rattle.file_devices.specs.Failing.{freely_unused};
 
 use crate::faults::Faults;
 use crate::log_file::LogFile;
-use stable::{CrashLog, DeviceError, LogDevice};
+use stable::{CrashLog, DeviceError, LogDevice, Spelling};
 use std::alloc::Global;
 use std::io;
 use std::marker::Model;
@@ -87,6 +87,17 @@ impl LogDevice for FileLog {
         self.faults.call()?;
         self.bytes.extend_from_slice(bytes)?;
         Ok(())
+    }
+
+    #[inline(always)]
+    fn append_spelled<S: Spelling>(&mut self, what: &S) -> Result<(), DeviceError> {
+        let len = self.bytes.len();
+        what.put(&mut self.bytes)?;
+        let counted = self.faults.call();
+        if counted.is_err() {
+            self.bytes.truncate(len);
+        }
+        counted
     }
 
     // What a failed force wrote is written again by the next one, from the same place: after a sync that failed, the

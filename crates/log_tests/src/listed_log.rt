@@ -2,7 +2,7 @@
 ghost use Rattle.std.specs.Prelude.{◌≡◌, false, IsTrue, IsOkUnless};
 ghost use Rattle.stable.specs.Usage.{is_due, used};
 
-use stable::{Counter, DeviceError, LogDevice};
+use stable::{Counter, DeviceError, LogDevice, Spelling};
 use std::alloc::Global;
 use std::marker::Model;
 
@@ -95,6 +95,16 @@ impl LogDevice for ListedLog {
         self.faults.call()?;
         self.bytes.extend_from_slice(bytes)?;
         Ok(())
+    }
+
+    fn append_spelled<S: Spelling>(&mut self, what: &S) -> Result<(), DeviceError> {
+        let len = self.bytes.len();
+        what.put(&mut self.bytes)?;
+        let counted = self.faults.call();
+        if counted.is_err() {
+            self.bytes.truncate(len);
+        }
+        counted
     }
 
     fn force(&mut self) -> Result<(), DeviceError> {

@@ -1,5 +1,5 @@
 //! What is appended to the log: a record, or the parts of one that are lent, so that they aren't copied for it.
-ghost use Rattle.std.specs.Prelude.{◌≡◌, ◌++◌, Option, is_some, OnOk, OnErr, IfErr};
+ghost use Rattle.std.specs.Prelude.{◌≡◌, Option, is_some};
 ghost use Rattle.codec.specs.Frames.{frame};
 ghost use Rattle.codec.specs.Records.{record_bytes, HasNumbers, IsRecord};
 ghost use Rattle.history.specs.Log.{request_of};
@@ -10,7 +10,8 @@ use crate::not_session::last_with;
 use crate::note::asks;
 use codec::{GivenAnswer, put_given_answer, put_op_record, put_record};
 use history::Record;
-use record_key::{Op, Refusal};
+use record_key::Op;
+use stable::{DeviceError, Spelling};
 use std::alloc::Global;
 
 /// A record, or the parts of one.
@@ -28,23 +29,25 @@ pub(crate) enum Appended<'a> {
     },
 }
 
-impl<'a> Appended<'a> {
-    /// Appends its frame. Where memory for it is refused nothing is appended.
+impl Spelling for Appended<'_> {
+    ghost bytes = { λ appended. frame (record_bytes (record_of appended)) };
+
+    ghost may_put = { λ appended. HasNumbers (record_of appended) };
+
+    ghost shows = { λ appended. IsRecord (record_of appended) };
+
     #[inline(always)]
-    pub(crate) fn put(&self, out: &mut Vec<u8>) -> Result<(), Refusal>
-        requires { HasNumbers (record_of self.now) }
-        ensures spelling { OnOk result (out.new.items ≡ out.old.items ++ frame (record_bytes (record_of self.now))) }
-        ensures refused { OnErr result (out.new.items ≡ out.old.items) }
-        ensures cause { IfErr result (λ refusal. refusal ≡ Refusal.NoMemory) }
-        ensures has_spelling { IsRecord (record_of self.now) }
-    {
-        match self {
+    fn put(&self, out: &mut Vec<u8>) -> Result<(), DeviceError> {
+        let put = match self {
             Appended::Whole(record) => put_record(out, record),
             Appended::Op { txn, prev, op } => put_op_record(out, *txn, *prev, op),
             Appended::Answer { of, answer } => put_given_answer(out, *of, answer),
-        }
+        };
+        put.map_err(|_| DeviceError::NoMemory)
     }
+}
 
+impl Appended<'_> {
     /// It has something done to the table.
     #[inline(always)]
     pub(crate) fn asks(&self) -> bool

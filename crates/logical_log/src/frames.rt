@@ -50,7 +50,7 @@ pub struct Frames<D: LogDevice> {
     // For each record the number of its Answer record, 0 while there is none, and no record's number where it asks for
     // nothing: so whether it is answered is told without reading it.
     answers: Vec<u64>,
-    // Where the frame of the next record is spelled.
+    // Where the frame of the next compensation is spelled.
     frame: Vec<u8>,
 }
 
@@ -296,7 +296,7 @@ impl<D: LogDevice> Frames<D> {
     {
         self.index.reserve()?;
         self.answers.reserve(1)?;
-        write(&mut self.device, &mut self.frame, appended)?;
+        write(&mut self.device, appended)?;
         let number = self.index.len() as u64 + 1;
         note(&mut self.answers, appended, number);
         self.index.push_reserved(self.end);

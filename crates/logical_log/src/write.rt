@@ -125,13 +125,9 @@ impl<D: LogDevice> Log<D> {
     }
 }
 
-/// Spells the record's frame in the place of what stood in `out`, and appends it to the device.
+/// Appends the record's frame to the device.
 #[inline(always)]
-pub(crate) fn write<D: LogDevice>(
-    device: &mut D,
-    out: &mut Vec<u8>,
-    appended: &Appended<'_>,
-) -> Result<(), Refusal>
+pub(crate) fn write<D: LogDevice>(device: &mut D, appended: &Appended<'_>) -> Result<(), Refusal>
     requires { HasNumbers (record_of appended.now) }
     ensures written { OnOk result (D.pending device.new
         ≡ D.pending device.old ++ frame (record_bytes (record_of appended.now))) }
@@ -142,16 +138,15 @@ pub(crate) fn write<D: LogDevice>(
     ensures used { D.usage device.new ≡ usage_after (D.usage device.old) result }
     ensures has_spelling { IsRecord (record_of appended.now) }
 {
-    out.clear();
-    appended.put(out)?;
-    match device.append(out) {
+    match device.append_spelled(appended) {
         Ok(()) => Ok(()),
         Err(error) => Err(refusal_of(error)),
     }
 }
 
 /// The same of the Comp record with these numbers that undoes an answered operation, whose record and Answer record stand
-/// on the device at these places. Answers whether it has an inverse.
+/// on the device at these places: it is spelled in the place of what stood in `out`, since bytes of the device are read
+/// for it. Answers whether it has an inverse.
 pub(crate) fn write_comp<D: LogDevice>(
     device: &mut D,
     out: &mut Vec<u8>,

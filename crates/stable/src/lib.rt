@@ -15,6 +15,7 @@ mod log_device;
 mod mem_log;
 mod mem_pages;
 mod page_device;
+mod spelling;
 
 pub use counter::Counter;
 pub use crash::crash_law;
@@ -24,3 +25,4 @@ pub use log_device::LogDevice;
 pub use mem_log::MemLog;
 pub use mem_pages::MemPages;
 pub use page_device::PageDevice;
+pub use spelling::Spelling;

@@ -5,6 +5,7 @@ ghost use Rattle.stable.specs.Device.{ForcesPart, Rests};
 ghost use Rattle.stable.specs.Usage.{Usage, is_due, used};
 
 use crate::error::DeviceError;
+use crate::spelling::Spelling;
 
 /// Bytes that only grow at their end. A crash leaves all that are forced, and a beginning of the others.
 pub trait LogDevice {
@@ -27,6 +28,16 @@ pub trait LogDevice {
         ensures err { OnErr result (pending self.new ≡ pending self.old) }
         ensures device { IsErrOf result DeviceError.Device → IsTrue (is_due (usage self.old)) }
         ensures used { usage self.new ≡ used (usage self.old) result };
+
+    /// Adds what is spelled at the end, all of it or none: its bytes are written where they are to stand.
+    fn append_spelled<S: Spelling>(&mut self, what: &S) -> Result<(), DeviceError>
+        requires { S.may_put what.now }
+        ensures forced { forced self.new ≡ forced self.old }
+        ensures appended { OnOk result (pending self.new ≡ pending self.old ++ S.bytes what.now) }
+        ensures err { OnErr result (pending self.new ≡ pending self.old) }
+        ensures device { IsErrOf result DeviceError.Device → IsTrue (is_due (usage self.old)) }
+        ensures used { usage self.new ≡ used (usage self.old) result }
+        ensures shown { S.shows what.now };
 
     /// After it every byte is forced. Where it fails, some may be.
     fn force(&mut self) -> Result<(), DeviceError>

@@ -10,6 +10,7 @@ use crate::crash_device::CrashLog;
 use crate::error::DeviceError;
 use crate::faults::Faults;
 use crate::log_device::LogDevice;
+use crate::spelling::Spelling;
 use std::alloc::Global;
 use std::marker::Model;
 
@@ -83,6 +84,26 @@ impl LogDevice for MemLog {
         self.faults.call()?;
         self.bytes.extend_from_slice(bytes)?;
         Ok(())
+    }
+
+    #[inline(always)]
+    fn append_spelled<S: Spelling>(&mut self, what: &S) -> Result<(), DeviceError>
+        requires { S.may_put what.now }
+        ensures due { OnOk result (is_due self.old.usage ≡ false) }
+        ensures device { IsErrOf result DeviceError.Device → IsTrue (is_due self.old.usage) }
+        ensures ok { OnOk result (self.new
+            ≡ with_bytes (log_after self.old result) self.old.forced (self.old.pending ++ S.bytes what.now)) }
+        ensures err { OnErr result (self.new ≡ log_after self.old result) }
+        ensures no_memory { IsErrOf result DeviceError.NoMemory → self.new ≡ self.old }
+        ensures shown { S.shows what.now }
+    {
+        let len = self.bytes.len();
+        what.put(&mut self.bytes)?;
+        let counted = self.faults.call();
+        if counted.is_err() {
+            self.bytes.truncate(len);
+        }
+        counted
     }
 
     fn force(&mut self) -> Result<(), DeviceError>
