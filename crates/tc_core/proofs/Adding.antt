@@ -1,9 +1,6 @@
 -- A number above all takes the last place, and its transaction the first.
-use Rattle.std.proofs.Common.{◌≡◌, ◌≢◌, ℕ, ◌<◌, List, [], ◌∷◌, ◌++◌, Some, None, Greater, refl, sym, ap, ◌∙◌, subst, arith}
+use Rattle.std.proofs.Common.{◌≡◌, ◌≢◌, ℕ, ◌<◌, List, [], ◌∷◌, ◌++◌, Some, None, refl, sym, ap, ◌∙◌, subst}
 use Rattle.std.specs.List.{AllByRecursion}
-use Rattle.std.specs.BTreeMap.{insert_entry}
-use Rattle.std.specs.Ordering.{nat_cmp}
-use Rattle.std.proofs.lemmas.Bool.Decides.{nat_tests}
 use Rattle.slab.specs.Slab.{Slab, get, Updates}
 use Rattle.tc_core.specs.declared.open_txn.OpenTxn.{OpenTxn}
 use Rattle.tc_core.specs.OpenTxns.{AreBelow}
@@ -15,14 +12,6 @@ use Rattle.tc_core.proofs.Slots.{Holds, same_slots}
 all_front : {X : Type 0} (P : X → Type 0) (xs ys : List X) → AllByRecursion P (xs ++ ys) → AllByRecursion P xs
 all_front P [] ys all = tt
 all_front P (x ∷ xs) ys all = (all.0, all_front P xs ys all.1)
-
--- the new number's entry comes last
-comes_last : (t s : ℕ) (es : List (ℕ × ℕ)) → AllByRecursion (λ (e : ℕ × ℕ). e.0 < t) es
-    → insert_entry nat_cmp es t s ≡ es ++ (t, s) ∷ []
-comes_last t s [] below = refl
-comes_last t s (e ∷ es) below =
-    let after : nat_cmp t e.0 ≡ Greater = grind (arith, nat_tests, below.0) in
-    rw after (ap (λ rest. e ∷ rest) (comes_last t s es below.1))
 
 entries_below : (t : ℕ) (slab : Slab OpenTxn) (es : List (ℕ × ℕ)) → AreSlots slab es → AreBelow t (in_slots slab es)
     → AllByRecursion (λ (e : ℕ × ℕ). e.0 < t) es
@@ -63,14 +52,13 @@ module _ (old new : Slab OpenTxn) (s : ℕ) (opened : OpenTxn) (vacant : get old
       }
 
 -- the newest transaction is added, where there may have been more room made
-pub adds : (opened : OpenTxn) (s : ℕ) (old wide new : Slab OpenTxn) (es more : List (ℕ × ℕ)) (os : List OpenTxn)
+pub adds : (opened : OpenTxn) (s : ℕ) (old wide new : Slab OpenTxn) (es : List (ℕ × ℕ)) (os : List OpenTxn)
     → AreSlots old es → in_slots old es ≡ os
     → wide ≡ record old { capacity = wide.capacity } → get wide s ≡ None → Updates wide new s (Some opened)
-    → AreBelow opened.txn os
-    → more ≡ insert_entry nat_cmp es opened.txn s → Holds new more (opened ∷ os)
-adds opened s old wide new es more os are view same vacant updates below is =
+    → AreBelow opened.txn os → Holds new (es ++ (opened.txn, s) ∷ []) (opened ∷ os)
+adds opened s old wide new es os are view same vacant updates below =
     let kept = same_slots old wide es same are in
     let was : in_slots wide es ≡ os = kept.view ∙ view in
     let last = entries_below opened.txn wide es kept.are (subst (AreBelow opened.txn) (sym was) below) in
     let h = at_end wide new s opened vacant updates es kept.are last in
-    rw (is, comes_last opened.txn s es last) (record { are = h.are; view = h.view ∙ ap (λ rest. opened ∷ rest) was })
+    record { are = h.are; view = h.view ∙ ap (λ rest. opened ∷ rest) was }

@@ -1,24 +1,15 @@
 -- A transaction is found through the slot of its number.
-use Rattle.std.proofs.Common.{◌≡◌, ℕ, ◌<◌, ◌==◌, Bool, true, false, cond, List, [], ◌∷◌, ◌++◌, Option, Some, None, IsSome, refl, sym, ap, ◌∙◌, subst, arith, true≢false}
+use Rattle.std.proofs.Common.{◌≡◌, ◌≢◌, ℕ, zero, suc, ◌<◌, ◌==◌, Bool, true, false, List, [], ◌∷◌, ◌++◌, All, slice_get, slice_index_or, IsSomeAnd, Option, Some, None, refl, ◌∙◌, subst, arith}
 use Rattle.std.specs.Prelude.{if◌then◌else◌}
 use Rattle.std.specs.List.{AllByRecursion}
-use Rattle.std.specs.BTreeMap.{is_at}
-use Rattle.std.specs.Map.{lookup}
-use Rattle.std.specs.Ordering.{is_eq, nat_cmp}
-use Rattle.std.proofs.lemmas.Bool.Decides.{nat_tests}
+use Rattle.std.proofs.lemmas.List.Elements.{recursion_from_All}
 use Rattle.slab.specs.Slab.{Slab, get}
+use Rattle.record_key.proofs.Lists.{all_from}
 use Rattle.tc_core.specs.declared.open_txn.OpenTxn.{OpenTxn}
 use Rattle.tc_core.specs.OpenTxns.{find, unless}
 use Rattle.tc_core.specs.Slots.{listed, in_slots, AreSlots}
-
--- the slot of a number
-abbrev pub slot_of : ℕ → List (ℕ × ℕ) → Option ℕ
-slot_of t es = lookup (is_at (nat_cmp t)) es
-
--- what the slot holds, if there is one
-abbrev pub held_at : Slab OpenTxn → Option ℕ → Option OpenTxn
-held_at slab None = None
-held_at slab (Some s) = get slab s
+use Rattle.tc_core.proofs.Finding.{find_here, find_there}
+use Rattle.tc_core.proofs.Slots.{numbers}
 
 pub unless_none : (o : Option OpenTxn) → unless o None ≡ o
 unless_none None = refl
@@ -33,40 +24,59 @@ find_in_both t (x ∷ xs) ys = pick (x.txn == t) (find_in_both t xs ys)
     pick true rest = refl
     pick false rest = rest
 
-no_slot : (t : ℕ) (es : List (ℕ × ℕ)) → AllByRecursion (λ (d : ℕ × ℕ). t < d.0) es → slot_of t es ≡ None
-no_slot t [] above = refl
-no_slot t (e ∷ es) above =
-    let apart : is_eq (nat_cmp t e.0) ≡ false = grind (arith, nat_tests, above.0) in
-    rw apart (no_slot t es above.1)
+none_found : (t : ℕ) (os : List OpenTxn) → AllByRecursion (λ (o : OpenTxn). o.txn ≢ t) os → find t os ≡ None
+none_found t [] apart = refl
+none_found t (o ∷ os) apart = find_there o os t apart.0 ∙ none_found t os apart.1
 
-pub found_in : (t : ℕ) (slab : Slab OpenTxn) (es : List (ℕ × ℕ)) → AreSlots slab es
-    → find t (in_slots slab es) ≡ held_at slab (slot_of t es)
-found_in t slab [] are = refl
-found_in t slab (e ∷ es) are =
-    find_in_both t (in_slots slab es) (listed (get slab e.1))
-    ∙ ap (λ o. unless o (find t (listed (get slab e.1)))) (found_in t slab es are.1)
-    ∙ pick (is_eq (nat_cmp t e.0)) refl
-  where
-    pick : (b : Bool) → is_eq (nat_cmp t e.0) ≡ b
-        → unless (held_at slab (slot_of t es)) (find t (listed (get slab e.1)))
-        ≡ held_at slab (cond b (Some e.1) (slot_of t es))
-    pick true is =
-        let same : t ≡ e.0 = grind (arith, nat_tests) in
-        let none : slot_of t es ≡ None = no_slot t es (rw same are.0.below) in
-        let here : (are.0.open_txn.txn == t) ≡ true = grind (arith, nat_tests, are.0.number) in
-        rw (none, are.0.held, here) refl
-    pick false is =
-        let there : (are.0.open_txn.txn == t) ≡ false = grind (arith, nat_tests, are.0.number) in
-        rw (are.0.held, there) (unless_none (held_at slab (slot_of t es)))
+-- what holds of all slots holds of each
+pub all_at : (P : ℕ × ℕ → Type 0) (es : List (ℕ × ℕ)) (i : ℕ) (e : ℕ × ℕ) → AllByRecursion P es
+    → slice_get es i ≡ Some e → P e
+all_at P [] i e all place = absurd (cc)
+all_at P (d ∷ es) zero e all place = let same : d ≡ e = cc in subst P same all.0
+all_at P (d ∷ es) (suc i) e all place = all_at P es i e all.1 place
 
-module _ (t : ℕ) (slab : Slab OpenTxn) (es : List (ℕ × ℕ)) (os : List OpenTxn) (are : AreSlots slab es)
-    (view : in_slots slab es ≡ os) where
-  pub found_at : (slot : Option ℕ) → slot ≡ slot_of t es → held_at slab slot ≡ find t os
-  found_at slot is = ap (held_at slab) is ∙ sym (found_in t slab es are) ∙ ap (find t) view
+-- the slot at the place of a number
+pub slot_at : (es : List (ℕ × ℕ)) (i t : ℕ) → IsSomeAnd (slice_get es i) (λ (e : ℕ × ℕ). e.0 ≡ t) → (e : ℕ × ℕ)
+    → e ≡ slice_index_or es i e → slice_get es i ≡ Some (t, e.1)
+slot_at [] i t found e is = absurd found
+slot_at (d ∷ es) zero t found e is = rw (is, ← found) refl
+slot_at (d ∷ es) (suc i) t found e is = slot_at es i t found e is
 
-  pub is_held : (s : ℕ) → Some s ≡ slot_of t es → IsSome (find t os) → IsSome (get slab s)
-  is_held s is open_txn = subst (λ (o : Option OpenTxn). IsSome o) (sym (found_at (Some s) is)) open_txn
+module _ (slab : Slab OpenTxn) where
+  -- the transactions after a slot have other numbers
+  pub after_slot : (d : ℕ × ℕ) (es : List (ℕ × ℕ)) → AreSlots slab (d ∷ es)
+      → AllByRecursion (λ (o : OpenTxn). o.txn ≢ d.0) (in_slots slab es)
+  after_slot d es are =
+      numbers (λ n. n ≢ d.0) slab es are.1
+      (all_from (λ (e : ℕ × ℕ). d.0 < e.0) _ (λ e less same. omega (arith, less, same)) es are.0.below)
 
-  pub has_slot : IsSome (find t os) → None ≡ slot_of t es → ⊥
-  has_slot open_txn none =
-      true≢false (sym (subst (λ (o : Option OpenTxn). IsSome o) (sym (found_at None none)) open_txn))
+  -- the transaction of an earlier slot has another number
+  pub before_slot : (d : ℕ × ℕ) (es : List (ℕ × ℕ)) (i : ℕ) (e : ℕ × ℕ) (are : AreSlots slab (d ∷ es))
+      → slice_get es i ≡ Some e → are.0.open_txn.txn ≢ e.0
+  before_slot d es i e are place same =
+      let less : d.0 < e.0 = all_at (λ (x : ℕ × ℕ). d.0 < x.0) es i e are.0.below place in
+      omega (arith, less, same, are.0.number)
+
+  found : (es : List (ℕ × ℕ)) (i : ℕ) (e : ℕ × ℕ) → AreSlots slab es → slice_get es i ≡ Some e
+      → find e.0 (in_slots slab es) ≡ get slab e.1
+  found [] i e are place = absurd (cc)
+  found (d ∷ es) zero e are place =
+      let same : d ≡ e = cc in
+      let here : find d.0 (in_slots slab (d ∷ es)) ≡ get slab d.1 =
+      find_in_both d.0 (in_slots slab es) (listed (get slab d.1))
+      ∙ rw (none_found d.0 (in_slots slab es) (after_slot d es are), are.0.held)
+      (find_here are.0.open_txn [] d.0 are.0.number) in
+      subst (λ (x : ℕ × ℕ). find x.0 (in_slots slab (d ∷ es)) ≡ get slab x.1) same here
+  found (d ∷ es) (suc i) e are place =
+      find_in_both e.0 (in_slots slab es) (listed (get slab d.1))
+      ∙ rw (are.0.held, find_there are.0.open_txn [] e.0 (before_slot d es i e are place))
+      (unless_none (find e.0 (in_slots slab es)) ∙ found es i e are.1 place)
+
+  module _ (t : ℕ) (es : List (ℕ × ℕ)) (os : List OpenTxn) (are : AreSlots slab es) (view : in_slots slab es ≡ os) where
+    pub found_at : (i s : ℕ) → slice_get es i ≡ Some (t, s) → find t os ≡ get slab s
+    found_at i s place = rw (← view) (found es i (t, s) are place)
+
+    pub not_found : All (λ (e : ℕ × ℕ). e.0 ≢ t) es → find t os ≡ None
+    not_found apart =
+        rw (← view) (none_found t (in_slots slab es)
+        (numbers (λ n. n ≢ t) slab es are (recursion_from_All (λ (e : ℕ × ℕ). e.0 ≢ t) es apart)))

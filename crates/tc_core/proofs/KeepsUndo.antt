@@ -1,5 +1,5 @@
 -- A compensation, and the end of a rollback, keep what holds of the transaction component.
-use Rattle.std.proofs.Common.{◌≡◌, ℕ, ◌+◌, ◌<◌, ◌≤◌, true, false, is_some, [], ◌∷◌, ◌++◌, List, length, Option, Some, None, refl, sym, ap, ◌∙◌, subst, arith, inl, inr}
+use Rattle.std.proofs.Common.{if◌then◌else◌, ◌≡◌, ℕ, ◌+◌, ◌<◌, ◌≤◌, false, is_some, [], ◌∷◌, ◌++◌, List, length, Option, Some, None, refl, sym, ap, ◌∙◌, subst, arith, inl, inr}
 use Rattle.record_key.specs.declared.op.Op.{Op}
 use Rattle.history.specs.declared.record.Record.{Record}
 use Rattle.history.specs.declared.record.Record.TheVariants as is
@@ -154,10 +154,6 @@ keeps_commit w o k at none unspent = record {
 }
 
 -- a compensation waits for its answer just where it asks for something
-pub waits_if : (i : Option Op) (x : Option ℕ) (n : ℕ) → is_some i ≡ true → x ≡ Some n → x ≡ waits_for n i
-waits_if None x n h e = absurd (cc)
-waits_if (Some i) x n h e = e
-
-pub waits_not : (i : Option Op) (x : Option ℕ) (n : ℕ) → is_some i ≡ false → x ≡ None → x ≡ waits_for n i
-waits_not None x n h e = e
-waits_not (Some i) x n h e = absurd (cc)
+pub waits : (i : Option Op) (n : ℕ) → (if is_some i then Some n else None) ≡ waits_for n i
+waits None n = refl
+waits (Some i) n = refl

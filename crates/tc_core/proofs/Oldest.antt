@@ -1,6 +1,7 @@
 -- The first that passes by rising numbers is the oldest.
-use Rattle.std.proofs.Common.{◌≡◌, ℕ, Bool, true, false, List, [], ◌∷◌, ◌++◌, Option, Some, None, refl, sym, ap, ◌∙◌}
+use Rattle.std.proofs.Common.{◌≡◌, ℕ, ◌+◌, ◌<◌, Bool, true, List, [], ◌∷◌, ◌++◌, length, drop, get_or, Option, Some, None, refl, sym, ap, ◌∙◌}
 use Rattle.std.specs.Prelude.{if◌then◌else◌}
+use Rattle.std.proofs.lemmas.List.{at_drop_more}
 use Rattle.slab.specs.Slab.{Slab, get}
 use Rattle.tc_core.specs.declared.open_txn.OpenTxn.{OpenTxn}
 use Rattle.tc_core.specs.OpenTxns.{oldest, unless}
@@ -18,17 +19,17 @@ module _ (test : OpenTxn → Bool) where
       ap (λ o. unless o (if test x then Some x else None)) (oldest_in_both xs ys)
       ∙ unless_twice (oldest test ys) (oldest test xs) (if test x then Some x else None)
 
-  first_slot : (slab : Slab OpenTxn) (e : ℕ × ℕ) (es : List (ℕ × ℕ))
-      → oldest test (in_slots slab (e ∷ es))
-      ≡ unless (oldest test (listed (get slab e.1))) (oldest test (in_slots slab es))
-  first_slot slab e es = oldest_in_both (in_slots slab es) (listed (get slab e.1))
+  module _ (slab : Slab OpenTxn) (es : List (ℕ × ℕ)) (i : ℕ) (inside : i < length es) where
+    first_slot : oldest test (in_slots slab (drop i es))
+        ≡ unless (oldest test (listed (get slab (get_or es i (0, 0)).1))) (oldest test (in_slots slab (drop (i + 1) es)))
+    first_slot =
+        at_drop_more (λ xs. oldest test (in_slots slab xs)) es i (0, 0) inside
+        ∙ oldest_in_both (in_slots slab (drop (i + 1) es)) (listed (get slab (get_or es i (0, 0)).1))
 
-  pub oldest_here : (slab : Slab OpenTxn) (e : ℕ × ℕ) (es : List (ℕ × ℕ)) (o : OpenTxn) → get slab e.1 ≡ Some o
-      → test o ≡ true
-      → oldest test (in_slots slab (e ∷ es)) ≡ Some o
-  oldest_here slab e es o held passes = first_slot slab e es ∙ rw (held, passes) refl
+    pub oldest_here : (o : OpenTxn) → get slab (get_or es i (0, 0)).1 ≡ Some o → test o ≡ true
+        → oldest test (in_slots slab (drop i es)) ≡ Some o
+    oldest_here o held passes = first_slot ∙ rw (held, passes) refl
 
-  pub oldest_later : (slab : Slab OpenTxn) (e : ℕ × ℕ) (es : List (ℕ × ℕ)) (o : OpenTxn) → get slab e.1 ≡ Some o
-      → test o ≡ false
-      → oldest test (in_slots slab (e ∷ es)) ≡ oldest test (in_slots slab es)
-  oldest_later slab e es o held fails = first_slot slab e es ∙ rw (held, fails) refl
+    pub oldest_later : (o : Option OpenTxn) → get slab (get_or es i (0, 0)).1 ≡ o → oldest test (listed o) ≡ None
+        → oldest test (in_slots slab (drop i es)) ≡ oldest test (in_slots slab (drop (i + 1) es))
+    oldest_later o held fails = first_slot ∙ rw (held, fails) refl

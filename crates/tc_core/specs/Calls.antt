@@ -144,6 +144,12 @@ abbrev pub ForceGives : TcView → Result Forced Refusal → TcView → Type 0
 ForceGives old (Ok f) new = (f.end ≡ length old.log) × (f.committed ≡ old.committing) × (new ≡ forced old)
 ForceGives old (Err r) new = (r ≡ Device) × (new ≡ failed old) × IsTrue (is_due old.usage)
 
+-- the request to perform the operation of this number
+pub record AsksToPerform (w : TcView) (number : ℕ) (request : Request) : Type 0 where
+  pub op : Op
+  pub requests : Requests w.log number op
+  pub is : request ≡ asks.Perform w.session number w.stable op
+
 -- the request that the transaction waits for: of its record, with how much of the log is stable
 pub record IsOpRequest (w : TcView) (t : ℕ) (request : Request) : Type 0 where
   pub open_txn : OpenTxn

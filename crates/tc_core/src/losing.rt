@@ -9,9 +9,8 @@ ghost use Rattle.tc_core.specs.Seen.{seen};
 
 use crate::parts::Parts;
 use crate::phase::Phase;
-use crate::requests::request;
 use crate::told::RecoverStep;
-use codec::Request;
+use crate::undoing::awaited;
 use compensation::append_undo;
 use history::Record;
 use record_key::Refusal;
@@ -25,12 +24,7 @@ impl<D: LogDevice> Parts<D> {
         requires undoing { self.now.phase ≡ phase.Undoing (Some number) }
         ensures gives { RecoverGives (seen self.now) result (seen self.now) }
     {
-        Ok(RecoverStep::Sends(Request::Perform {
-            session: self.session,
-            number,
-            stable: self.log.stable_end(),
-            op: request(&self.log, number),
-        }))
+        Ok(RecoverStep::Sends(self.perform(number)))
     }
 
     /// Ends the least loser that has nothing left to undo; where there is none, compensates the latest operation.
@@ -76,11 +70,11 @@ impl<D: LogDevice> Parts<D> {
             Ok(None) => unreachable!(),
             Err(refusal) => return Err(refusal),
         };
-        let number = told.number;
-        self.losers.compensated(number, told.next);
-        let waiting = if told.asks { Some(number) } else { None };
-        self.phase = Phase::Undoing { waiting };
-        Ok(RecoverStep::Compensated(number))
+        self.losers.compensated(told.number, told.next);
+        self.phase = Phase::Undoing {
+            waiting: awaited(told),
+        };
+        Ok(RecoverStep::Compensated(told.number))
     }
 
     /// How the session goes on once redo has ended, and after the end of a loser.

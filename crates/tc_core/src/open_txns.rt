@@ -1,5 +1,5 @@
 //! The open transactions, each in a slot of its own, found by their numbers.
-ghost use Rattle.std.specs.Prelude.{◌≡◌, [], ◌∷◌, length, IsSome, IfErr, OnOk, OnErr};
+ghost use Rattle.std.specs.Prelude.{◌≡◌, ◌≢◌, ◌<◌, [], ◌∷◌, length, slice_get, All, IsSome, IsSomeAnd, IfSome, IfNone, IfErr, OnOk, OnErr};
 ghost use Rattle.std.specs.Option.{option_copied};
 ghost use Rattle.tc_core.specs.Changed.{happens};
 ghost use Rattle.tc_core.specs.OpenTxns.{find, without, AreBelow, oldest, wants as is_wanted};
@@ -9,7 +9,6 @@ use crate::open_txn::OpenTxn;
 use record_key::Refusal;
 use slab::Slab;
 use std::alloc::Global;
-use std::collections::BTreeMap;
 use std::marker::Model;
 
 /// Who is looked for.
@@ -23,11 +22,11 @@ pub enum Wanted {
     Reader(u64),
 }
 
-/// Open transactions in slots, and by number the slot of each.
+/// Open transactions in slots, and the slot of each with its number, the newest last.
 #[derive(Debug, Drop)]
 pub struct OpenTxns {
     txns: Slab<OpenTxn>,
-    slots: BTreeMap<u64, usize>,
+    slots: Vec<(u64, usize)>,
 }
 
 impl Model for OpenTxns {
@@ -37,9 +36,9 @@ impl Model for OpenTxns {
 
     ghost Value = { List OpenTxn };
 
-    ghost view = { λ o. in_slots o.txns o.slots.entries };
+    ghost view = { λ o. in_slots o.txns o.slots.items };
 
-    ghost invariant = { λ o. AreSlots o.txns o.slots.entries };
+    ghost invariant = { λ o. AreSlots o.txns o.slots.items };
 }
 
 impl OpenTxns {
@@ -49,7 +48,7 @@ impl OpenTxns {
     {
         OpenTxns {
             txns: Slab::new(alloc),
-            slots: BTreeMap::new(alloc),
+            slots: Vec::new(alloc),
         }
     }
 
@@ -64,10 +63,8 @@ impl OpenTxns {
     pub fn find(&self, txn: u64) -> Option<&OpenTxn>
         ensures { option_copied result ≡ find txn self.now }
     {
-        match self.slots.get(&txn) {
-            Some(slot) => self.txns.get(*slot),
-            None => None,
-        }
+        let place = place_of(&self.slots, txn)?;
+        self.txns.get(self.slots[place].1)
     }
 
     /// Adds the newest transaction. Refused NoMemory.
@@ -78,7 +75,7 @@ impl OpenTxns {
         ensures unchanged { OnErr result (self.new ≡ self.old) }
     {
         self.txns.reserve(1)?;
-        self.slots.insert(opened.txn, self.txns.vacant_key())?;
+        self.slots.push((opened.txn, self.txns.vacant_key()))?;
         self.txns.insert_reserved(opened);
         Ok(())
     }
@@ -88,8 +85,8 @@ impl OpenTxns {
     pub fn change(&mut self, txn: u64, what: Change)
         ensures { self.new ≡ happens txn what self.old }
     {
-        if let Some(slot) = self.slots.get(&txn) {
-            if let Some(open_txn) = self.txns.get_mut(*slot) {
+        if let Some(place) = place_of(&self.slots, txn) {
+            if let Some(open_txn) = self.txns.get_mut(self.slots[place].1) {
                 make_change(open_txn, what);
             }
         }
@@ -100,7 +97,8 @@ impl OpenTxns {
         requires { IsSome (find txn self.old) }
         ensures { self.new ≡ without txn self.old }
     {
-        if let Some(slot) = self.slots.remove(&txn) {
+        if let Some(place) = place_of(&self.slots, txn) {
+            let (_, slot) = self.slots.remove(place);
             self.txns.try_remove(slot);
         }
     }
@@ -118,6 +116,15 @@ impl OpenTxns {
         }
         None
     }
+}
+
+// Where the slot of the transaction of this number stands. Looks from the newest down, since that is asked for most.
+fn place_of(slots: &[(u64, usize)], txn: u64) -> Option<usize>
+    ensures none { IfNone result (All (λ slot. slot.0 ≢ txn) slots.now) }
+    ensures found { IfSome result (λ place. IsSomeAnd (slice_get slots.now place) (λ slot. slot.0 ≡ txn)) }
+    ensures within { IfSome result (λ place. place < length slots.now) }
+{
+    slots.iter().rposition(|slot| slot.0 == txn)
 }
 
 fn wants(wanted: Wanted, opened: &OpenTxn) -> bool

@@ -1,23 +1,31 @@
 //! What the data component is asked for: the records of a log, and reads.
 ghost use Rattle.std.specs.Prelude.{◌≡◌};
-ghost use Rattle.history.specs.Log.{Requests, HasRequest};
-ghost use Rattle.tc_core.specs.Calls.{read_request as asks_for};
+ghost use Rattle.history.specs.Log.{HasRequest};
+ghost use Rattle.tc_core.specs.Calls.{AsksToPerform, read_request as asks_for};
+ghost use Rattle.tc_core.specs.Seen.{seen};
 
 use crate::open_txn::Read;
+use crate::parts::Parts;
 use codec::Request;
-use logical_log::Log;
 use range_locks::Span;
-use record_key::{Key, Op};
+use record_key::Key;
 use stable::LogDevice;
 
-/// What the record of this number asks for, where it does.
-pub fn request<D: LogDevice>(log: &Log<D>, number: u64) -> Op
-    requires { HasRequest log.now.records number }
-    ensures { Requests log.now.records number result }
-{
-    match log.asked_op(number) {
-        Some(op) => op,
-        None => unreachable!(),
+impl<D: LogDevice> Parts<D> {
+    /// What the record of this number asks for, with how much of the log is stable.
+    pub fn perform(&self, number: u64) -> Request
+        requires { HasRequest self.now.log.records number }
+        ensures { AsksToPerform (seen self.now) number result }
+    {
+        match self.log.asked_op(number) {
+            Some(op) => Request::Perform {
+                session: self.session,
+                number,
+                stable: self.log.stable_end(),
+                op,
+            },
+            None => unreachable!(),
+        }
     }
 }
 

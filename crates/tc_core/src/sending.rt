@@ -7,7 +7,7 @@ ghost use Rattle.tc_core.specs.Kept.{IsTc};
 ghost use Rattle.tc_core.specs.Seen.{seen};
 
 use crate::parts::Parts;
-use crate::requests::{read_request, request};
+use crate::requests::read_request;
 use codec::Request;
 use range_locks::Span;
 use record_key::{Key, Refusal};
@@ -25,12 +25,7 @@ impl<D: LogDevice> Parts<D> {
         let Some(number) = opened.waiting else {
             return Err(Refusal::Unsent);
         };
-        Ok(Request::Perform {
-            session: self.session,
-            number,
-            stable: self.log.stable_end(),
-            op: request(&self.log, number),
-        })
+        Ok(self.perform(number))
     }
 
     pub fn awaited_op(&self, txn: u64) -> Option<(u64, &[u8])>

@@ -9,7 +9,6 @@ ghost use Rattle.tc_core.specs.TcView.{TcView};
 
 use crate::parts::Parts;
 use crate::phase::Phase;
-use crate::requests::request;
 use crate::told::RecoverStep;
 use codec::Request;
 use record_key::Refusal;
@@ -79,12 +78,7 @@ impl<D: LogDevice> Parts<D> {
     {
         let session = self.session;
         match self.redo_op(next) {
-            Some(number) => Request::Perform {
-                session,
-                number,
-                stable: self.log.stable_end(),
-                op: request(&self.log, number),
-            },
+            Some(number) => self.perform(number),
             None => {
                 self.phase = Phase::Redoing {
                     next: session,

@@ -1,5 +1,5 @@
 //! The steps of a rollback.
-ghost use Rattle.std.specs.Prelude.{◌≡◌, ◌≤◌, Some, None};
+ghost use Rattle.std.specs.Prelude.{◌≡◌, ◌≤◌, Some, None, if◌then◌else◌};
 ghost use Rattle.compensation.specs.NextUndo.{MayUndo, IsUndone};
 ghost use Rattle.tc_core.specs.Calls.{UndoGives};
 ghost use Rattle.tc_core.specs.Undoing.{MayStep};
@@ -10,7 +10,7 @@ use crate::change::Change;
 use crate::open_txn::Rollback;
 use crate::parts::Parts;
 use crate::told::UndoStep;
-use compensation::{Chain, append_undo};
+use compensation::{Chain, Compensated, append_undo};
 use history::Record;
 use record_key::Refusal;
 use stable::LogDevice;
@@ -40,14 +40,12 @@ impl<D: LogDevice> Parts<D> {
         match append_undo(&mut self.log, Chain { txn, last }, rollback.above) {
             Ok(Some(told)) => {
                 let number = told.number;
-                let waiting = if told.asks { Some(number) } else { None };
-                let undo = told.next;
                 self.open_txns.change(
                     txn,
                     Change::Stepped {
                         number,
-                        undo,
-                        waiting,
+                        undo: told.next,
+                        waiting: awaited(told),
                     },
                 );
                 Ok(UndoStep::Compensated(number))
@@ -74,4 +72,11 @@ impl<D: LogDevice> Parts<D> {
         self.locks.release(txn);
         Ok(UndoStep::RolledBack(txn))
     }
+}
+
+/// The number of a compensation, if it waits for an answer.
+pub fn awaited(told: Compensated) -> Option<u64>
+    ensures { result ≡ (if told.asks then Some told.number else None) }
+{
+    if told.asks { Some(told.number) } else { None }
 }

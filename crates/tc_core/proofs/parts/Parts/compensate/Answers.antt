@@ -13,11 +13,11 @@ use Rattle.tc_core.specs.TcView.{TcView}
 use Rattle.tc_core.specs.declared.open_txn.Rollback.{Rollback}
 use Rattle.tc_core.specs.Undoing.{MayStep}
 use Rattle.tc_core.specs.Seen.{seen}
-use Rattle.tc_core.proofs.KeepsUndo.{fits_comp, is_comp, keeps_comp, waits_if, waits_not}
+use Rattle.tc_core.proofs.KeepsUndo.{fits_comp, is_comp, keeps_comp, waits}
 use Rattle.tc_core.proofs.Refused.{happened}
 use Rattle.tc_core.proofs.UndoCauses.{refuses_step, makes, logs_comp, unspent_and}
 use Rattle.tc_core.proofs.parts.Parts.compensate.Goals as goal
-use Rattle.tc_core.proofs.parts.Parts.compensate.Goals.{then-told, else-told}
+use Rattle.tc_core.proofs.parts.Parts.compensate.Goals.{After-change}
 
 -- the compensation is that of what is left to undo
 it_is : (w : TcView) (t : ℕ) (b : Rollback) (may : MayStep w t b) (r : Record) → IsTc w → Compensates w.log t b.above r
@@ -29,12 +29,12 @@ it_is w t b may r k next =
     is_comp w may.open_txn b.above r k at.is (subst P (sym at.number) next)
 
 -- the compensation that was appended
-appended : (g : _) (c : goal.After-change g) → Undoes c.args.self.now.log c.args.txn c.args.rollback.above c.in-Ok-Some.told
+appended : (g : _) (c : After-change g) → Undoes c.args.self.now.log c.args.txn c.args.rollback.above c.in-Ok-Some.told
     c.append_undo.new.log
 appended g c = subst (λ told. UndoesNext c.args.self.now.log c.args.txn c.args.rollback.above told c.append_undo.new.log)
     c.in-Ok-Some.field-0-is c.in-Ok-Some.ensures.undoes
 
-now : (g : _) (c : goal.After-change g)
+now : (g : _) (c : After-change g)
     → seen (record c.args.self.now { log = c.append_undo.new.log; open_txns = c.change.new.self })
     ≡ compensated (seen c.args.self.now) c.requires.may_step.open_txn
 now g c =
@@ -46,17 +46,12 @@ now g c =
     let is = (it_is w c.args.txn c.args.rollback may d.compensation c.requires.kept d.next).0 in
     let undo : told.next ≡ next_at w.log o.undo = d.undo_next ∙ ap undo_next_in is in
     let asked : told.asks ≡ is_some (inverse_at w.log o.undo) = d.asks ∙ ap has_inverse is in
-    let waits : c.if-told.waiting ≡ waits_for told.number (inverse_at w.log o.undo) =
-    elim c.if-told.branch [
-      | then-told b ↦
-          waits_if (inverse_at w.log o.undo) c.if-told.waiting told.number (sym asked ∙ b.if-told.true) b.waiting-is
-      | else-told b ↦
-          waits_not (inverse_at w.log o.undo) c.if-told.waiting told.number (sym asked ∙ b.if-told.false) b.waiting-is
-    ] in
+    let waiting : c.awaited.result ≡ waits_for told.number (inverse_at w.log o.undo) =
+    c.awaited.ensures ∙ rw asked (waits (inverse_at w.log o.undo) told.number) in
     rw (
-      happened w c.args.txn o (Stepped told.number told.next c.if-told.waiting) c.change.new.self may.found.at
+      happened w c.args.txn o (Stepped told.number told.next c.awaited.result) c.change.new.self may.found.at
           c.change.ensures,
-      waits,
+      waiting,
       undo,
       d.appended.log,
       is,
@@ -78,8 +73,8 @@ returns-in-Err-clause-gives g c =
     refuses_step w c.args.txn c.args.rollback may (logs_comp w c.args.txn c.args.rollback may above) c.in-Err.refusal
     c.append_undo.new.log c.in-Err.ensures.refused c.in-Err.ensures.left (λ e. c.in-Err.ensures.device (ap Err e))
 
-pub returns-after-told-clause-kept : goal.returns-after-told-clause-kept
-returns-after-told-clause-kept g c =
+pub returns-in-Ok-Some-clause-kept : goal.returns-in-Ok-Some-clause-kept
+returns-in-Ok-Some-clause-kept g c =
     let w = seen c.args.self.now in
     let may = c.requires.may_step in
     let d = appended g c in
@@ -90,8 +85,8 @@ returns-after-told-clause-kept g c =
     (keeps_comp w may.open_txn c.args.rollback c.requires.kept may.found.at.is may.found.waiting may.rolling fits
     d.appended.unspent)
 
-pub returns-after-told-clause-gives : goal.returns-after-told-clause-gives
-returns-after-told-clause-gives g c =
+pub returns-in-Ok-Some-clause-gives : goal.returns-in-Ok-Some-clause-gives
+returns-in-Ok-Some-clause-gives g c =
     let w = seen c.args.self.now in
     let may = c.requires.may_step in
     let d = appended g c in

@@ -12,10 +12,9 @@ use Rattle.logical_log.specs.Undoing.{inverse_at, next_at}
 use Rattle.tc_core.specs.Changes.{waits_for, lost_comp, lost_compensated}
 use Rattle.tc_core.specs.Kept.{IsTc}
 use Rattle.tc_core.specs.Seen.{seen}
-use Rattle.tc_core.proofs.KeepsUndo.{fits_comp, waits_if, waits_not}
+use Rattle.tc_core.proofs.KeepsUndo.{fits_comp, waits}
 use Rattle.tc_core.proofs.KeepsLosing.{lost_idle, lost_is, keeps_lost_comp}
 use Rattle.tc_core.proofs.parts.Parts.compensate_loser.Goals as goal
-use Rattle.tc_core.proofs.parts.Parts.compensate_loser.Goals.{then-told, else-told}
 
 pub append_undo-requires : goal.append_undo-requires
 append_undo-requires g c =
@@ -65,7 +64,7 @@ it_is g c =
 now : (g : _) (c : goal.After-self-1 g)
     → seen (record c.args.self.now {
       log = c.append_undo.new.log;
-      phase = Undoing c.if-told.waiting;
+      phase = Undoing c.awaited.result;
       losers = c.compensated.new.self;
     })
     ≡ lost_compensated (seen c.args.self.now) c.args.loser c.compensated.new.self
@@ -76,12 +75,8 @@ now g c =
     let d = appended g c in
     let is = it_is g c in
     let asked : told.asks ≡ is_some i = d.asks ∙ ap has_inverse is in
-    let waits : c.if-told.waiting ≡ waits_for told.number i =
-    elim c.if-told.branch [
-      | then-told b ↦ waits_if i c.if-told.waiting told.number (sym asked ∙ b.if-told.true) b.waiting-is
-      | else-told b ↦ waits_not i c.if-told.waiting told.number (sym asked ∙ b.if-told.false) b.waiting-is
-    ] in
-    rw (waits, d.appended.log, is, d.appended.number_is) refl
+    let waiting : c.awaited.result ≡ waits_for told.number i = c.awaited.ensures ∙ rw asked (waits i told.number) in
+    rw (waiting, d.appended.log, is, d.appended.number_is) refl
 
 pub returns-clause-kept : goal.returns-clause-kept
 returns-clause-kept g c =

@@ -1,4 +1,4 @@
-use Rattle.std.proofs.Common.{ℕ, ◌∙◌, true, subst, arith, sym, ap, refl, Some, None}
+use Rattle.std.proofs.Common.{◌∙◌, true, subst, arith, sym, ap, refl, Some, None}
 use Rattle.codec.specs.declared.request.Request.TheVariants.{Perform}
 use Rattle.history.specs.Log.{Requests, HasRequest}
 use Rattle.tc_core.specs.declared.phase.Phase.{Phase}
@@ -10,8 +10,8 @@ use Rattle.tc_core.proofs.Asking.{none_asks, none_before, has_request}
 use Rattle.tc_core.proofs.KeepsLost.{keeps_redoing}
 use Rattle.tc_core.proofs.parts.Parts.redo.Goals as goal
 
-pub request-requires : goal.request-requires
-request-requires g c =
+pub perform-requires : goal.perform-requires
+perform-requires g c =
     let w = seen c.args.self.now in
     let n = c.in-Some.number in
     subst (λ (v : TcView). HasRequest v.log n) (sym c.in-Some.ensures.there)
@@ -31,19 +31,18 @@ pub returns-in-Some-clause-redoes : goal.returns-in-Some-clause-redoes
 returns-in-Some-clause-redoes g c =
     let w = seen c.args.self.now in
     let n = c.in-Some.number in
-    let op = c.request.result in
+    let asks = c.perform.ensures in
     let found = c.in-Some.ensures.finds in
     let there = c.in-Some.ensures.there in
     record {
-      found = Some (n, op);
+      found = Some (n, asks.op);
       finds = (
         found.is.from_there,
         found.is.up_to,
-        subst (λ (v : TcView). Requests v.log n op) there c.request.ensures,
+        subst (λ (v : TcView). Requests v.log n asks.op) there asks.requests,
         none_before w.log c.args.next w.session n found,
       );
-      request_is = ap (λ (stable : ℕ). Perform w.session n stable op)
-          (c.stable_end.ensures ∙ ap (λ (v : TcView). v.stable) there);
+      request_is = asks.is ∙ ap (λ (v : TcView). Perform v.session n v.stable asks.op) there;
       left = there;
     }
 
