@@ -2,3 +2,4 @@ pub mod Apart
 pub mod Doing
 pub mod Framed
 mod Serving
+mod SpelledOp

@@ -2,3 +2,4 @@ pub mod Seen
 pub mod Sent
 pub mod SentReads
 pub mod Served
+pub mod SpelledOp

@@ -11,6 +11,7 @@ mod attempt;
 mod driving;
 mod message;
 mod node;
+mod parts;
 mod sent;
 mod settling;
 mod world;

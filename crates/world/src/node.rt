@@ -13,6 +13,7 @@ ghost use Rattle.dc_core.specs.Serves.{MayAsk};
 ghost use Rattle.world.specs.Served.{Served};
 
 use crate::attempt::attempt;
+use crate::parts::{GetParts, PerformParts, RowParts};
 use crate::sent::{Asked, Said, Sent};
 use codec::{Asking, Reading, Reply, Request};
 use node_laws::{Event, Out};
@@ -128,7 +129,11 @@ impl<D: CrashLog, P: CrashPages> Node<D, P> {
         tc.kept();
         let (read, key) = tc.awaited_key(txn)?;
         let next = self.requests.next()?;
-        self.requests.push_get(tc.session(), read, key);
+        let reading = Reading {
+            session: tc.session(),
+            read,
+        };
+        self.requests.push_reserved(&GetParts { reading, key });
         Some(next)
     }
 
@@ -144,8 +149,12 @@ impl<D: CrashLog, P: CrashPages> Node<D, P> {
         tc.kept();
         let (number, op) = tc.awaited_op(txn)?;
         let next = self.requests.next()?;
-        self.requests
-            .push_perform(tc.session(), number, tc.stable_end(), op);
+        let asking = Asking {
+            session: tc.session(),
+            number,
+            stable: tc.stable_end(),
+        };
+        self.requests.push_reserved(&PerformParts { asking, op });
         Some(next)
     }
 
@@ -176,8 +185,12 @@ impl<D: CrashLog, P: CrashPages> Node<D, P> {
         let Some(op) = tc.asked_bytes(number) else {
             unreachable!();
         };
-        self.requests
-            .push_perform(tc.session(), number, tc.stable_end(), op);
+        let asking = Asking {
+            session: tc.session(),
+            number,
+            stable: tc.stable_end(),
+        };
+        self.requests.push_reserved(&PerformParts { asking, op });
         Some(next)
     }
 
@@ -236,9 +249,9 @@ fn serve_get<D: CrashLog, P: CrashPages>(
     ensures { Served dc.old replies.old.messages (get_of reading key.now) out.new dc.new replies.new.messages }
 {
     let next = replies.next();
-    let found = attempt!(out, dc.get(reading.session, key));
+    let value = attempt!(out, dc.get(reading.session, key));
     let reply = attempt!(out, next.ok_or(Refusal::NoMemory));
-    replies.push_found(reading.session, reading.read, found);
+    replies.push_reserved(&RowParts { reading, value });
     *out = Out::Replied(reply);
 }
 

@@ -1,23 +1,17 @@
 //! Messages as they were sent: their frames one after another in one buffer, and an index of places. What was sent
 //! stays: a message may be delivered any number of times, late, or never.
-ghost use Rattle.std.specs.Option.{option_copied, option_map};
-ghost use Rattle.record_key.specs.Lent.{answer_lent};
-ghost use Rattle.std.specs.Prelude.{◌≡◌, ◌<◌, ◌≤◌, ◌++◌, ◌∷◌, ◌⊎◌, [], true, false, length, None, Some, IfOk, IfErr, OnOk, OnErr, OnSome};
-ghost use Rattle.record_key.specs.declared.op.Op.{Op};
-ghost use Rattle.codec.specs.declared.request.Request.TheVariants as asks;
-ghost use Rattle.codec.specs.declared.reply.Reply.TheVariants as says;
-ghost use Rattle.codec.specs.Fields.{IsNumber, op_bytes};
+ghost use Rattle.std.specs.Prelude.{◌≡◌, ◌<◌, ◌++◌, ◌∷◌, ◌⊎◌, [], true, false, length, Some, IfOk, IfErr, OnOk, OnErr, OnSome};
 ghost use Rattle.codec.specs.FrameIndex.{places_of, Indexes};
-ghost use Rattle.codec.specs.Requests.{IsRequest};
 ghost use Rattle.node_laws.specs.Halves.{IsNextNumber};
 ghost use Rattle.node_laws.specs.Messages.{message_at};
 ghost use Rattle.node_laws.specs.Node.{IsUnsent};
 ghost use Rattle.world.specs.Sent.{IsReadApart, IsHeardApart, IsStale, IsUnreadOf};
 
 use crate::message::{Message, reply_at, request_at, session_at};
+use crate::parts::{AnsweredParts, Parts};
 use codec::{
     Asking, FrameIndex, GivenAnswer, Reading, Reply, Request, answered_at, asking_at, found_at,
-    put_answered, put_found, put_get, put_perform, reading_at,
+    reading_at,
 };
 use page::AnswerSink;
 use record_key::{AnswerRef, Change, Key, Refusal, Value};
@@ -92,28 +86,28 @@ impl<M: Message> Sent<M> {
     }
 
     /// Appends a message. Where memory is refused nothing is appended; there was no room then, or it has rows.
-    pub(crate) fn push(&mut self, message: &M) -> Result<(), Refusal>
-        requires { M.may_put message.now }
-        ensures appended { OnOk result (self.new.messages ≡ self.old.messages ++ message.now ∷ []) }
+    pub(crate) fn push<P: Parts<M>>(&mut self, parts: &P) -> Result<(), Refusal>
+        requires { P.may_put parts.now }
+        ensures appended { OnOk result (self.new.messages ≡ self.old.messages ++ P.message parts.now ∷ []) }
         ensures unchanged { OnErr result (self.new.messages ≡ self.old.messages) }
         ensures cause { IfErr result (λ refusal. refusal ≡ Refusal.NoMemory) }
-        ensures long { OnErr result (self.old.has_room ≡ true → M.is_long message.now ≡ true) }
+        ensures long { OnErr result (self.old.has_room ≡ true → M.is_long (P.message parts.now) ≡ true) }
     {
         self.index.reserve()?;
         let place = self.bytes.len();
-        M::put(&mut self.bytes, message)?;
+        parts.put(&mut self.bytes)?;
         self.index.push_reserved(place);
         Ok(())
     }
 
     /// Appends a message for which there is room.
-    pub(crate) fn push_reserved(&mut self, message: &M)
-        requires put { M.may_put message.now }
+    pub(crate) fn push_reserved<P: Parts<M>>(&mut self, parts: &P)
+        requires put { P.may_put parts.now }
         requires room { self.old.has_room ≡ true }
-        requires short { M.is_long message.now ≡ false }
-        ensures { self.new.messages ≡ self.old.messages ++ message.now ∷ [] }
+        requires short { M.is_long (P.message parts.now) ≡ false }
+        ensures { self.new.messages ≡ self.old.messages ++ P.message parts.now ∷ [] }
     {
-        match self.push(message) {
+        match self.push(parts) {
             Ok(()) => {}
             Err(_) => unreachable!(),
         }
@@ -148,65 +142,6 @@ impl Sent<Request> {
         }
         *other = Some(request_at(&self.bytes, place));
         Ok(Asked::Other)
-    }
-
-    /// Appends a request to read this key, for which there is room.
-    pub(crate) fn push_get(&mut self, session: u64, read: u64, key: &Key)
-        requires numbers { IsNumber session × IsNumber read }
-        requires room { self.old.has_room ≡ true }
-        ensures { self.new.messages ≡ self.old.messages ++ asks.Get session read key.now ∷ [] }
-    {
-        match self.add_get(session, read, key) {
-            Ok(()) => {}
-            Err(_) => unreachable!(),
-        }
-    }
-
-    fn add_get(&mut self, session: u64, read: u64, key: &Key) -> Result<(), Refusal>
-        requires numbers { IsNumber session × IsNumber read }
-        ensures appended { OnOk result (self.new.messages
-            ≡ self.old.messages ++ asks.Get session read key.now ∷ []) }
-        ensures room { OnErr result (self.old.has_room ≡ true → ⊥) }
-    {
-        self.index.reserve()?;
-        let place = self.bytes.len();
-        put_get(&mut self.bytes, session, read, key)?;
-        self.index.push_reserved(place);
-        Ok(())
-    }
-
-    /// Appends a request to perform the operation that these bytes spell, for which there is room.
-    pub(crate) fn push_perform(&mut self, session: u64, number: u64, stable: u64, op: &[u8])
-        requires spelled { (o : Op) × ((op.now ≡ op_bytes o) × IsRequest (asks.Perform session number stable o)) }
-        requires short { length op.now ≤ 164 }
-        requires room { self.old.has_room ≡ true }
-        ensures { (o : Op) → op.now ≡ op_bytes o → IsRequest (asks.Perform session number stable o)
-            → self.new.messages ≡ self.old.messages ++ asks.Perform session number stable o ∷ [] }
-    {
-        match self.add_perform(session, number, stable, op) {
-            Ok(()) => {}
-            Err(_) => unreachable!(),
-        }
-    }
-
-    fn add_perform(
-        &mut self,
-        session: u64,
-        number: u64,
-        stable: u64,
-        op: &[u8],
-    ) -> Result<(), Refusal>
-        requires spelled { (o : Op) × ((op.now ≡ op_bytes o) × IsRequest (asks.Perform session number stable o)) }
-        requires short { length op.now ≤ 164 }
-        ensures appended { (o : Op) → op.now ≡ op_bytes o → IsRequest (asks.Perform session number stable o)
-            → OnOk result (self.new.messages ≡ self.old.messages ++ asks.Perform session number stable o ∷ []) }
-        ensures room { OnErr result (self.old.has_room ≡ true → ⊥) }
-    {
-        self.index.reserve()?;
-        let place = self.bytes.len();
-        put_perform(&mut self.bytes, session, number, stable, op)?;
-        self.index.push_reserved(place);
-        Ok(())
     }
 }
 
@@ -253,63 +188,6 @@ impl Sent<Reply> {
             Err(refusal) => Err(refusal),
         }
     }
-
-    /// Appends the reply that answers an operation so, for which there is room.
-    fn push_answered(&mut self, session: u64, number: u64, answer: Option<&AnswerRef<'_>>)
-        requires numbers { IsNumber session × IsNumber number }
-        requires room { self.old.has_room ≡ true }
-        ensures { self.new.messages ≡ self.old.messages
-            ++ says.Answered session number (option_map answer_lent (option_copied answer.entry)) ∷ [] }
-    {
-        match self.add_answered(session, number, answer) {
-            Ok(()) => {}
-            Err(_) => unreachable!(),
-        }
-    }
-
-    fn add_answered(
-        &mut self,
-        session: u64,
-        number: u64,
-        answer: Option<&AnswerRef<'_>>,
-    ) -> Result<(), Refusal>
-        requires numbers { IsNumber session × IsNumber number }
-        ensures appended { OnOk result (self.new.messages ≡ self.old.messages
-            ++ says.Answered session number (option_map answer_lent (option_copied answer.entry)) ∷ []) }
-        ensures room { OnErr result (self.old.has_room ≡ true → ⊥) }
-    {
-        self.index.reserve()?;
-        let place = self.bytes.len();
-        put_answered(&mut self.bytes, session, number, answer)?;
-        self.index.push_reserved(place);
-        Ok(())
-    }
-
-    /// Appends the reply to a read of a key, which found this value, for which there is room.
-    pub(crate) fn push_found(&mut self, session: u64, read: u64, value: Option<&Value>)
-        requires numbers { IsNumber session × IsNumber read }
-        requires room { self.old.has_room ≡ true }
-        ensures { self.new.messages
-            ≡ self.old.messages ++ says.Row session read (option_copied value.entry) ∷ [] }
-    {
-        match self.add_found(session, read, value) {
-            Ok(()) => {}
-            Err(_) => unreachable!(),
-        }
-    }
-
-    fn add_found(&mut self, session: u64, read: u64, value: Option<&Value>) -> Result<(), Refusal>
-        requires numbers { IsNumber session × IsNumber read }
-        ensures appended { OnOk result (self.new.messages
-            ≡ self.old.messages ++ says.Row session read (option_copied value.entry) ∷ []) }
-        ensures room { OnErr result (self.old.has_room ≡ true → ⊥) }
-    {
-        self.index.reserve()?;
-        let place = self.bytes.len();
-        put_found(&mut self.bytes, session, read, value)?;
-        self.index.push_reserved(place);
-        Ok(())
-    }
 }
 
 impl AnswerSink for Sent<Reply> {
@@ -326,7 +204,11 @@ impl AnswerSink for Sent<Reply> {
         new.messages ≡ old.messages ++ says.Answered session number answer ∷ [] };
 
     fn take(&mut self, asker: u64, number: u64, answer: Option<&AnswerRef<'_>>) {
-        self.push_answered(asker, number, answer);
+        self.push_reserved(&AnsweredParts {
+            session: asker,
+            number,
+            answer,
+        });
     }
 }
 

@@ -8,8 +8,8 @@ use Rattle.node_laws.proofs.Halves.{sends_op}
 use Rattle.node_laws.proofs.Invariant.Spellable.{resend_numbers}
 use Rattle.world.proofs.node.Node.send_get.Goals as goal
 
-pub push_get-requires-clause-numbers : goal.push_get-requires-clause-numbers
-push_get-requires-clause-numbers g c =
+pub push_reserved-requires-clause-put : goal.push_reserved-requires-clause-put
+push_reserved-requires-clause-put g c =
     let w = c.in-Ok.tc.now in
     let q : Request = asks.Get w.session c.in_ok-read.read c.in_ok-read.key.now in
     rw c.session.ensures
@@ -24,6 +24,6 @@ returns-clause-sent g c =
     let given : ResendGives w t (Ok q) = rw c.session.ensures c.in_ok-read.ensures.asked in
     let gives : ResendGives n.tc.tc t (Ok q) =
     subst (λ (v : TcView). ResendGives v t (Ok q)) c.in-Ok.ensures.tc given in
-    rw (c.push_get.ensures, c.in_ok-next.ensures.same)
+    rw (c.push_reserved.ensures, c.in_ok-next.ensures.same)
     (sends_op n.tc n.dc n.requests.messages n.replies.messages t c.in_ok-next.next q c.in-Ok.ensures.up gives
     c.in_ok-next.ensures.number)

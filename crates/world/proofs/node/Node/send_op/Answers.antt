@@ -2,15 +2,15 @@ use Rattle.std.proofs.Common.{subst}
 use Rattle.std.specs.Prelude.{Ok}
 use Rattle.codec.specs.declared.request.Request.{Request}
 use Rattle.codec.specs.declared.request.Request.TheVariants as asks
-use Rattle.codec.specs.Requests.{IsRequest}
 use Rattle.tc_core.specs.Calls.{ResendGives}
 use Rattle.tc_core.specs.TcView.{TcView}
 use Rattle.node_laws.proofs.Halves.{sends_op}
 use Rattle.node_laws.proofs.Invariant.Spellable.{awaited_spelled}
+use Rattle.world.proofs.SpelledOp.{op_given}
 use Rattle.world.proofs.node.Node.send_op.Goals as goal
 
-pub push_perform-requires-clause-spelled : goal.push_perform-requires-clause-spelled
-push_perform-requires-clause-spelled g c =
+pub push_reserved-requires-clause-put : goal.push_reserved-requires-clause-put
+push_reserved-requires-clause-put g c =
     let awaited = c.in_ok-number.ensures.sent in
     let asked = awaited.asked in
     rw (c.session.ensures, c.stable_end.ensures) (
@@ -34,9 +34,8 @@ returns-clause-sent g c =
     let given : ResendGives w t (Ok q) = rw (c.session.ensures, c.stable_end.ensures) awaited.gives in
     let gives : ResendGives n.tc.tc t (Ok q) =
     subst (λ (v : TcView). ResendGives v t (Ok q)) c.in-Ok.ensures.tc given in
-    let fits : IsRequest q =
-    rw (c.session.ensures, c.stable_end.ensures)
-    (awaited_spelled w t number c.in_ok-number.op.now c.kept.ensures awaited) in
-    rw (c.push_perform.ensures asked.op asked.spelled fits, c.in_ok-next.ensures.same)
+    let op = c.in_ok-number.op.now in
+    let fits = awaited_spelled w t number op c.kept.ensures awaited in
+    rw (c.push_reserved.ensures, op_given op asked.op asked.spelled fits.1.1.1, c.in_ok-next.ensures.same)
     (sends_op n.tc n.dc n.requests.messages n.replies.messages t c.in_ok-next.next q c.in-Ok.ensures.up gives
     c.in_ok-next.ensures.number)

@@ -26,7 +26,8 @@ count_is : (g : given.Over) (c : goal.After-push_reserved g)
     → c.push_reserved.new.self.count ≡ c.self.inside.index.count + 1
 count_is g c = c.push_reserved.ensures.count ∙ ap (λ (n : ℕ). n + 1) c.in_ok-reserve.ensures.count
 
-is_short : (g : given.Over) (c : goal.After-push_reserved g) → length (g.M.Message.spell c.args.message.now) < 2 ^ 64
+is_short : (g : given.Over) (c : goal.After-push_reserved g)
+    → length (g.M.Message.spell (g.P.Parts.message c.args.parts.now)) < 2 ^ 64
 is_short g c =
     let long : length c.put.new.out.items < 2 ^ 64 = grind (arith, common_steps) in
     body_is_short _ c.self.inside.bytes.items _ c.in_ok-put.ensures.spelling long
@@ -36,14 +37,15 @@ invariant_of-self-2 g c =
     let T = g.M.Message in
     let m = c.self.inside in
     rw (c.in_ok-put.ensures.spelling, marks_are g c, count_is g c)
-    (all_more _ T.spell T.is_spelled T.read_at g.met.M.Message.reads m.bytes.items m.index.marks m.index.count
-    c.args.message.now c.self.invariant c.in_ok-put.ensures.spelled (is_short g c))
+    (all_more _ T.spell T.is_spelled T.read_at T.reads m.bytes.items m.index.marks m.index.count
+    (g.P.Parts.message c.args.parts.now) c.self.invariant c.in_ok-put.ensures.spelled (is_short g c))
 
 pub returns-clause-appended : goal.returns-clause-appended
 returns-clause-appended g c =
     let T = g.M.Message in
     let m = c.self.inside in
+    let message = g.P.Parts.message c.args.parts.now in
     rw (c.in_ok-put.ensures.spelling, count_is g c)
-    (all_read_more _ T.spell T.is_spelled T.read_at g.met.M.Message.reads m.bytes.items m.index.marks m.index.count
-    c.args.message.now c.self.invariant c.in_ok-put.ensures.spelled (is_short g c)
-    ∙ ap (λ (v : SentView _). v.messages ++ c.args.message.now ∷ []) c.self.view_is)
+    (all_read_more _ T.spell T.is_spelled T.read_at T.reads m.bytes.items m.index.marks m.index.count
+    message c.self.invariant c.in_ok-put.ensures.spelled (is_short g c)
+    ∙ ap (λ (v : SentView _). v.messages ++ message ∷ []) c.self.view_is)

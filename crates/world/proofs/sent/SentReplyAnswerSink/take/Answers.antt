@@ -8,5 +8,5 @@ use Rattle.world.proofs.sent.SentReplyAnswerSink.take.Goals as goal
 
 pub returns-clause-told : goal.returns-clause-told
 returns-clause-told c =
-    ap told_last c.push_answered.ensures
+    ap told_last c.push_reserved.ensures
     ∙ told_newest c.args.self.now.messages (says.Answered c.args.asker c.args.number (option_map answer_lent (option_copied c.args.answer)))
