@@ -15,7 +15,7 @@ use Rattle.node_laws.specs.Messages.{message_at}
 use Rattle.pool_journal.specs.declared.place.Place.{Place}
 use Rattle.pool_journal.specs.declared.step.Step.{Step}
 use Rattle.pool_journal.specs.Kept.{is_dc, calls_of, IsLine, PlaceKept, PlacesKept, LinesKept, place_after, place_heard, EntersTc, EntersDc, IsInRun, IsSentBy}
-use Rattle.pool_journal.specs.Sessions.{IsCalled, LeavesLive, SessionCall, Part, calls_as, calls, called, no_part, line_of, pending, part_of, awaits, called_as, is_pending, live_after, IsClosed, IsLeft, IsSameCall}
+use Rattle.pool_journal.specs.Sessions.{IsCalled, LeavesLive, SessionCall, Part, calls_as, called, no_part, line_of, pending, part_of, awaits, called_as, is_pending, live_after, IsClosed, IsLeft, IsSameCall}
 use Rattle.pool_journal.specs.Errands.{FailsSince}
 use Rattle.pool_journal.specs.declared.failure.Failure.{Failure}
 use Rattle.pool_journal.specs.declared.news.News.{News}

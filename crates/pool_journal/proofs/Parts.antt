@@ -6,11 +6,10 @@ use Rattle.history.specs.ListMachine.{Line}
 use Rattle.node_laws.specs.declared.event.Event.{Event}
 use Rattle.node_laws.specs.declared.event.Out.{Out}
 use Rattle.node_laws.specs.Halves.{also}
-use Rattle.pool_journal.specs.declared.errand.Errand.{Errand}
 use Rattle.pool_journal.specs.declared.failure.Failure.{Failure}
 use Rattle.pool_journal.specs.declared.place.Place.{Place}
 use Rattle.pool_journal.specs.declared.step.Step.{Step}
-use Rattle.pool_journal.specs.Errands.{EndsWithFailure, FailsSince, errand_after, errand_of, fails}
+use Rattle.pool_journal.specs.Errands.{FailsSince, errand_after, errand_of, fails}
 use Rattle.pool_journal.specs.Kept.{calls_of, PlaceKept, IsLine, later, with_told, place_heard, place_worked}
 use Rattle.pool_journal.specs.Sessions.{SessionCall, Part, with_latest, calls, line_to, line_for, is_pending, awaits, told, told_of, pending, line_of, live_after, ends, called_as, hears, worked, cut, cuts_off, heard, called, next_part, part_after, no_part, part_of, IsClosed, IsLeft, IsSameCall}
 use Rattle.pool_journal.specs.Callers.{IsGrown}

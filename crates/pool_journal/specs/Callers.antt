@@ -1,11 +1,10 @@
 -- What is seen of a session: its number, and its part of the entries that it has seen.
-use Rattle.std.specs.Prelude.{◌≡◌, ℕ, true, List, ◌++◌, Option, Some, None}
+use Rattle.std.specs.Prelude.{◌≡◌, ℕ, true, Option, Some, None}
 use Rattle.std.specs.Option.{is_some}
 use Rattle.history.specs.ListMachine.{Line}
 use Rattle.node_laws.specs.declared.event.Out.{Out}
 use Rattle.boxcar.specs.Table.{Shelves}
 use Rattle.marks.specs.Seen.{Seen}
-use Rattle.pool_journal.specs.declared.failure.Failure.{Failure}
 use Rattle.pool_journal.specs.declared.news.News.{News}
 use Rattle.pool_journal.specs.declared.news.News.TheVariants as news
 use Rattle.pool_journal.specs.Errands.{EndsWithFailure, FailsSince}

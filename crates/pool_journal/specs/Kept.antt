@@ -11,8 +11,8 @@ use Rattle.node_laws.specs.declared.event.Event.TheVariants as event
 use Rattle.pool_journal.specs.declared.step.Step.{Step}
 use Rattle.pool_journal.specs.declared.failure.Failure.{Failure}
 use Rattle.pool_journal.specs.declared.place.Place.{Place}
-use Rattle.pool_journal.specs.declared.place.Told.{Told}
-use Rattle.pool_journal.specs.declared.place.Told.TheVariants as is
+use Rattle.pool_journal.specs.declared.told.Told.{Told}
+use Rattle.pool_journal.specs.declared.told.Told.TheVariants as is
 use Rattle.node_laws.specs.Component.{DcSide}
 use Rattle.node_laws.specs.Messages.{message_at}
 use Rattle.node_laws.specs.Node.{NodeView, dc_side}

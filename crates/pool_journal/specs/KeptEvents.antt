@@ -1,4 +1,5 @@
 -- An event in little room.
+use Rattle.std.specs.Prelude.{◌≡◌, Bool, true, false, ⊤}
 use Rattle.node_laws.specs.declared.event.Event.{Event}
 use Rattle.node_laws.specs.declared.event.Event.TheVariants as event
 use Rattle.pool_journal.specs.declared.kept_event.Kept.{Kept}
@@ -17,3 +18,22 @@ kept_event kept.Tend = event.Tend
 kept_event (kept.Request i) = event.Request i
 kept_event (kept.Reply j) = event.Reply j
 kept_event (kept.Other e) = e.value
+
+-- it is told by its kind and one number at most
+abbrev pub is_brief : Event → Bool
+is_brief event.Begin = true
+is_brief (event.Commit t) = true
+is_brief event.Force = true
+is_brief event.Tell = true
+is_brief (event.LowWater l) = true
+is_brief (event.Send t) = true
+is_brief (event.Undo t) = true
+is_brief event.Tend = true
+is_brief (event.Request i) = true
+is_brief (event.Reply j) = true
+is_brief _ = false
+
+-- no box holds what is brief
+abbrev pub BoxesOthers : Kept → Type 0
+BoxesOthers (kept.Other e) = is_brief e.value ≡ false
+BoxesOthers _ = ⊤

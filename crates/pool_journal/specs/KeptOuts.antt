@@ -1,13 +1,15 @@
 -- An output in little room.
+use Rattle.std.specs.Prelude.{◌≡◌, Bool, true, false, ⊤}
 use Rattle.node_laws.specs.declared.event.Out.{Out}
 use Rattle.node_laws.specs.declared.event.Out.TheVariants as out
-use Rattle.pool_journal.specs.declared.kept_out.Kept.{Kept}
-use Rattle.pool_journal.specs.declared.kept_out.Kept.TheVariants as kept
+use Rattle.pool_journal.specs.declared.kept_out.OutForm.{OutForm}
+use Rattle.pool_journal.specs.declared.kept_out.OutForm.TheVariants as kept
 
 -- the output that is kept so
-abbrev pub kept_out : Kept → Out
+abbrev pub kept_out : OutForm → Out
 kept_out (kept.Begun t) = out.Begun t
 kept_out (kept.Logged n) = out.Logged n
+kept_out kept.RollingBack = out.RollingBack
 kept_out (kept.CommitLogged n) = out.CommitLogged n
 kept_out kept.Nothing = out.Nothing
 kept_out (kept.Compensated n) = out.Compensated n
@@ -17,4 +19,27 @@ kept_out (kept.Replied j) = out.Replied j
 kept_out kept.Noted = out.Noted
 kept_out (kept.Asked n) = out.Asked n
 kept_out (kept.Undone t) = out.Undone t
+kept_out (kept.Refused r) = out.Refused r
 kept_out (kept.Other o) = o.value
+
+-- it is told by its kind and one number or reason
+abbrev pub is_brief : Out → Bool
+is_brief (out.Begun t) = true
+is_brief (out.Logged n) = true
+is_brief out.RollingBack = true
+is_brief (out.CommitLogged n) = true
+is_brief out.Nothing = true
+is_brief (out.Compensated n) = true
+is_brief (out.RolledBack t) = true
+is_brief (out.Sent i) = true
+is_brief (out.Replied j) = true
+is_brief out.Noted = true
+is_brief (out.Asked n) = true
+is_brief (out.Undone t) = true
+is_brief (out.Refused r) = true
+is_brief _ = false
+
+-- no box holds what is brief
+abbrev pub BoxesOthers : OutForm → Type 0
+BoxesOthers (kept.Other o) = is_brief o.value ≡ false
+BoxesOthers _ = ⊤

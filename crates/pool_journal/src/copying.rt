@@ -1,7 +1,9 @@
 //! Messages that are handed to a component and stand in an entry too.
 ghost use Rattle.std.specs.Prelude.{◌≡◌, IfOk};
+ghost use Rattle.std.specs.Option.{option_map};
+ghost use Rattle.codec.specs.Given.{answer_given};
 
-use codec::Reply;
+use codec::{GivenAnswer, Reply};
 use record_key::{Answer, Value};
 use std::alloc::AllocError;
 
@@ -43,6 +45,16 @@ pub fn copied(reply: &Reply) -> Result<Reply, AllocError>
             low: *low,
         }),
         Reply::RedoEnded { session } => Ok(Reply::RedoEnded { session: *session }),
+    }
+}
+
+/// The answer of a reply, lent.
+pub(crate) fn lent(answer: &Option<Answer>) -> Option<GivenAnswer<'_>>
+    ensures { option_map answer_given result ≡ answer.now }
+{
+    match answer {
+        Some(answer) => Some(GivenAnswer::Whole(answer)),
+        None => None,
     }
 }
 

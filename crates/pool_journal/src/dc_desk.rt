@@ -230,8 +230,9 @@ fn tended<D: CrashLog, P: CrashPages>(side: &mut DcSide<D, P>) -> Out
     ensures leads { DcLeads side.old None event.Tend None result None side.new }
     ensures nothing { result ≡ out.Nothing → side.new ≡ side.old }
 {
-    let mut reply = None;
-    side.step(&Event::Tend, None, None, &mut reply)
+    let mut out = Out::Nothing;
+    side.tend(&mut out);
+    out
 }
 
 // One step of the component, and how many messages it has given then.

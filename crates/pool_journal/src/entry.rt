@@ -1,13 +1,11 @@
 //! What stands in the row.
 ghost use Rattle.std.specs.Prelude.{◌≡◌};
 ghost use Rattle.std.specs.Option.{option_copied};
-ghost use Rattle.pool_journal.specs.Lending.{lent};
 
-use crate::lent::Lent;
+use crate::kept_out::KeptOut;
 use crate::step::Step;
 use crate::trace::Trace;
 use codec::{Reply, Request};
-use node_laws::Out;
 
 /// A step, with those before it.
 #[derive(Drop)]
@@ -18,10 +16,10 @@ pub struct Entry {
 
 impl Entry {
     /// What its event came to.
-    pub fn out(&self) -> Lent<'_, Out>
-        ensures { lent result ≡ self.now.step.value.out }
+    pub fn out(&self) -> &KeptOut
+        ensures { result.now ≡ self.now.step.value.out }
     {
-        self.step.out.lent()
+        &self.step.out
     }
 
     /// The request that it sent.

@@ -1,8 +1,7 @@
 //! Why a step is refused that may be made again.
 ghost use Rattle.std.specs.Prelude.{◌≡◌};
-ghost use Rattle.pool_journal.specs.Failing.{failure_in, failure_of, refusal_of};
+ghost use Rattle.pool_journal.specs.Failing.{failure_in, refusal_of};
 
-use node_laws::Out;
 use record_key::Refusal;
 
 /// A growth was refused, or a device failed.
@@ -12,8 +11,8 @@ pub enum Failure {
     Device,
 }
 
-// The failure that it tells, if it tells one.
-fn failure_in(refusal: Refusal) -> Option<Failure>
+/// The failure that it tells, if it tells one.
+pub(crate) fn failure_in(refusal: Refusal) -> Option<Failure>
     ensures { result ≡ failure_in refusal }
 {
     match refusal {
@@ -24,16 +23,6 @@ fn failure_in(refusal: Refusal) -> Option<Failure>
 }
 
 impl Failure {
-    /// What a step failed by that came to this, if it did.
-    pub fn of(out: &Out) -> Option<Failure>
-        ensures { result ≡ failure_of out.now }
-    {
-        match out {
-            Out::Refused(refusal) => failure_in(*refusal),
-            _ => None,
-        }
-    }
-
     pub fn refusal(self) -> Refusal
         ensures { result ≡ refusal_of self }
     {

@@ -14,11 +14,10 @@ ghost use Rattle.pool_journal.specs.Views.{Sees};
 
 use crate::caller::Caller;
 use crate::entry::Entry;
-use crate::errand::Errand;
 use crate::lines::{Lines, Unsent};
 use crate::naming::Naming;
 use crate::news::News;
-use crate::place::{Place, is_pending, live_after};
+use crate::place::Place;
 use crate::step::Step;
 use crate::stirs::Stirs;
 use crate::view::Visitor;
@@ -57,10 +56,8 @@ fn hear_all<J: Naming>(places: &mut Vec<Place<J>>, entry: &Entry, token: &Pushed
     ensures heard { places.new.items ≡ map (place_after token.now) places.old.items }
     ensures count { vec_len places.new ≡ vec_len places.old }
 {
-    let event = entry.step.event.lent();
-    let out = entry.out();
     for place in places.iter_mut() {
-        place.hear(entry, event.get(), out.get(), token);
+        place.hear(entry, token);
     }
 }
 
@@ -335,11 +332,11 @@ impl<J: Naming> Journal<J> {
         } = caller;
         let place = &mut places[*number as usize];
         place.party.meet(row, own, &Some(token.again()));
-        let out = entry.out();
-        place.live = live_after(place.live, out.get());
-        place.awaits = is_pending(out.get());
+        let out = &entry.step.out;
+        place.live = out.live_after(place.live);
+        place.awaits = out.is_pending();
         place.line = None;
-        place.errand = Errand::of(out.get());
+        place.errand = out.errand();
         place.failed = None;
         stirs.set(*number, false);
         token

@@ -1,7 +1,12 @@
 //! An event in little room: of ten entries of a transaction nine are told by one number.
 ghost use Rattle.std.specs.Prelude.{◌≡◌};
+ghost use Rattle.pool_journal.specs.Errands.{serves};
 ghost use Rattle.pool_journal.specs.Lending.{lent};
+ghost use Rattle.pool_journal.specs.Marking.{low_of};
+ghost use Rattle.pool_journal.specs.Sessions.{cuts_off};
 
+use crate::errand::{Errand, is_number};
+use crate::kept_out::KeptOut;
 use crate::lent::Lent;
 use crate::row::boxed;
 use node_laws::Event;
@@ -33,13 +38,15 @@ enum Kept {
 impl Model for KeptEvent {
     ghost use Rattle.std.specs.Coded.{codes};
     ghost use Rattle.node_laws.specs.declared.event.Event.{Event};
-    ghost use Rattle.pool_journal.specs.KeptEvents.{kept_event};
+    ghost use Rattle.pool_journal.specs.KeptEvents.{kept_event, BoxesOthers};
 
     ghost Value = { Event };
 
     ghost coded = { Prim.hlevel codes };
 
     ghost view = { λ k. kept_event k.inside };
+
+    ghost invariant = { λ k. BoxesOthers k.inside };
 }
 
 impl KeptEvent {
@@ -80,5 +87,38 @@ impl KeptEvent {
             Kept::Reply(number) => Event::Reply { number: *number },
             Kept::Other(event) => return Lent::Kept(event),
         })
+    }
+
+    /// Whether the step is made for this transaction.
+    pub(crate) fn serves(&self, txn: u64, errand: &Errand) -> bool
+        ensures { result ≡ serves txn errand.now self.now }
+    {
+        match &self.inside {
+            Kept::Send(of) | Kept::Undo(of) => *of == txn,
+            Kept::Request(number) => is_number(errand.request, *number),
+            Kept::Reply(number) => is_number(errand.reply, *number),
+            Kept::Force => errand.commits,
+            _ => false,
+        }
+    }
+
+    /// Whether it cuts every session's transaction off.
+    pub(crate) fn cuts_off(&self) -> bool
+        ensures { result ≡ cuts_off self.now }
+    {
+        match &self.inside {
+            Kept::Other(event) => matches!(&**event, Event::CrashTc { .. }),
+            _ => false,
+        }
+    }
+
+    /// The number that was announced where it came to this, 0 where none was.
+    pub(crate) fn low_sent(&self, out: &KeptOut) -> u64
+        ensures { result ≡ low_of self.now out.now }
+    {
+        match &self.inside {
+            Kept::LowWater(low) => out.if_sent(*low),
+            _ => 0,
+        }
     }
 }

@@ -1,24 +1,36 @@
 //! What an event came to, in little room: of ten entries of a transaction eight are told by one number.
-ghost use Rattle.std.specs.Prelude.{◌≡◌};
+ghost use Rattle.std.specs.Prelude.{◌≡◌, true, IfSome, IfNone};
+ghost use Rattle.pool_journal.specs.Errands.{errand_of, sent_on};
+ghost use Rattle.pool_journal.specs.Failing.{failure_of};
+ghost use Rattle.pool_journal.specs.Kept.{kind_of};
+ghost use Rattle.pool_journal.specs.KeptOuts.{kept_out, is_brief, BoxesOthers};
 ghost use Rattle.pool_journal.specs.Lending.{lent};
+ghost use Rattle.pool_journal.specs.Marking.{if_sent, tells_commit};
+ghost use Rattle.pool_journal.specs.Sessions.{is_pending, line_to, live_after};
 
+use crate::errand::Errand;
+use crate::failure::{Failure, failure_in};
 use crate::lent::Lent;
 use crate::row::boxed;
+use crate::told::{Told, kind_if, told_to};
 use node_laws::Out;
+use record_key::Refusal;
 use std::alloc::Global;
 use std::marker::Model;
 use std::sync::Wait;
 
-/// An output. What comes often is a kind and a number, anything else stands in a box. Contracts see the output.
+/// An output. What comes often is a kind and a number or a reason, anything else stands in a box. Contracts see the output.
 #[derive(Debug, Drop)]
 pub struct KeptOut {
-    inside: Kept,
+    inside: OutForm,
 }
 
+/// The forms in which an output is kept. None in a box is one of the others.
 #[derive(Debug, Drop)]
-enum Kept {
+pub enum OutForm {
     Begun(u64),
     Logged(u64),
+    RollingBack,
     CommitLogged(u64),
     Nothing,
     Compensated(u64),
@@ -28,19 +40,22 @@ enum Kept {
     Noted,
     Asked(u64),
     Undone(u64),
+    Refused(Refusal),
     Other(Box<Out>),
 }
 
 impl Model for KeptOut {
     ghost use Rattle.std.specs.Coded.{codes};
     ghost use Rattle.node_laws.specs.declared.event.Out.{Out};
-    ghost use Rattle.pool_journal.specs.KeptOuts.{kept_out};
+    ghost use Rattle.pool_journal.specs.KeptOuts.{kept_out, BoxesOthers};
 
     ghost Value = { Out };
 
     ghost coded = { Prim.hlevel codes };
 
     ghost view = { λ k. kept_out k.inside };
+
+    ghost invariant = { λ k. BoxesOthers k.inside };
 }
 
 impl KeptOut {
@@ -49,20 +64,41 @@ impl KeptOut {
         ensures { result ≡ out }
     {
         let inside = match out {
-            Out::Begun(txn) => Kept::Begun(txn),
-            Out::Logged(number) => Kept::Logged(number),
-            Out::CommitLogged(number) => Kept::CommitLogged(number),
-            Out::Nothing => Kept::Nothing,
-            Out::Compensated(number) => Kept::Compensated(number),
-            Out::RolledBack(txn) => Kept::RolledBack(txn),
-            Out::Sent(number) => Kept::Sent(number),
-            Out::Replied(number) => Kept::Replied(number),
-            Out::Noted => Kept::Noted,
-            Out::Asked(number) => Kept::Asked(number),
-            Out::Undone(txn) => Kept::Undone(txn),
-            other => Kept::Other(boxed(rt, alloc, other)),
+            Out::Begun(txn) => OutForm::Begun(txn),
+            Out::Logged(number) => OutForm::Logged(number),
+            Out::RollingBack => OutForm::RollingBack,
+            Out::CommitLogged(number) => OutForm::CommitLogged(number),
+            Out::Nothing => OutForm::Nothing,
+            Out::Compensated(number) => OutForm::Compensated(number),
+            Out::RolledBack(txn) => OutForm::RolledBack(txn),
+            Out::Sent(number) => OutForm::Sent(number),
+            Out::Replied(number) => OutForm::Replied(number),
+            Out::Noted => OutForm::Noted,
+            Out::Asked(number) => OutForm::Asked(number),
+            Out::Undone(txn) => OutForm::Undone(txn),
+            Out::Refused(refusal) => OutForm::Refused(refusal),
+            other => OutForm::Other(boxed(rt, alloc, other)),
         };
         KeptOut { inside }
+    }
+
+    /// The form in which it is kept.
+    pub fn form(&self) -> &OutForm
+        ensures out { kept_out result.now ≡ self.now }
+        ensures others { BoxesOthers result.now }
+    {
+        &self.inside
+    }
+
+    /// The output itself, where it stands in a box: else it is told by its form.
+    pub fn other(&self) -> Option<&Out>
+        ensures boxed { IfSome result (λ out. out.now ≡ self.now) }
+        ensures brief { IfNone result (is_brief self.now ≡ true) }
+    {
+        match &self.inside {
+            OutForm::Other(out) => Some(out),
+            _ => None,
+        }
     }
 
     /// The output, to be looked at. Takes no memory.
@@ -70,18 +106,116 @@ impl KeptOut {
         ensures { lent result ≡ self.now }
     {
         Lent::Made(match &self.inside {
-            Kept::Begun(txn) => Out::Begun(*txn),
-            Kept::Logged(number) => Out::Logged(*number),
-            Kept::CommitLogged(number) => Out::CommitLogged(*number),
-            Kept::Nothing => Out::Nothing,
-            Kept::Compensated(number) => Out::Compensated(*number),
-            Kept::RolledBack(txn) => Out::RolledBack(*txn),
-            Kept::Sent(number) => Out::Sent(*number),
-            Kept::Replied(number) => Out::Replied(*number),
-            Kept::Noted => Out::Noted,
-            Kept::Asked(number) => Out::Asked(*number),
-            Kept::Undone(txn) => Out::Undone(*txn),
-            Kept::Other(out) => return Lent::Kept(out),
+            OutForm::Begun(txn) => Out::Begun(*txn),
+            OutForm::Logged(number) => Out::Logged(*number),
+            OutForm::RollingBack => Out::RollingBack,
+            OutForm::CommitLogged(number) => Out::CommitLogged(*number),
+            OutForm::Nothing => Out::Nothing,
+            OutForm::Compensated(number) => Out::Compensated(*number),
+            OutForm::RolledBack(txn) => Out::RolledBack(*txn),
+            OutForm::Sent(number) => Out::Sent(*number),
+            OutForm::Replied(number) => Out::Replied(*number),
+            OutForm::Noted => Out::Noted,
+            OutForm::Asked(number) => Out::Asked(*number),
+            OutForm::Undone(txn) => Out::Undone(*txn),
+            OutForm::Refused(refusal) => Out::Refused(*refusal),
+            OutForm::Other(out) => return Lent::Kept(out),
         })
+    }
+
+    /// What it tells a transaction.
+    pub(crate) fn told_to(&self, txn: u64) -> Told
+        ensures { result ≡ kind_of (line_to txn self.now) }
+    {
+        match &self.inside {
+            OutForm::RolledBack(of) => kind_if(*of == txn, Told::End),
+            OutForm::Other(out) => told_to(txn, out),
+            _ => Told::Nothing,
+        }
+    }
+
+    /// Whether more is told of a call that came to this.
+    pub fn is_pending(&self) -> bool
+        ensures { result ≡ is_pending self.now }
+    {
+        matches!(
+            &self.inside,
+            OutForm::Logged(_) | OutForm::Asked(_) | OutForm::RollingBack | OutForm::CommitLogged(_)
+        )
+    }
+
+    /// The transaction whose lines are a session's once a call of its came to this.
+    pub(crate) fn live_after(&self, live: Option<u64>) -> Option<u64>
+        ensures { result ≡ live_after live self.now }
+    {
+        match &self.inside {
+            OutForm::Begun(txn) => Some(*txn),
+            _ => live,
+        }
+    }
+
+    /// What a step failed by that came to this, if it did.
+    pub(crate) fn failure(&self) -> Option<Failure>
+        ensures { result ≡ failure_of self.now }
+    {
+        match &self.inside {
+            OutForm::Refused(refusal) => failure_in(*refusal),
+            _ => None,
+        }
+    }
+
+    /// What is on its way for a call that came to this: nothing is sent yet.
+    pub(crate) fn errand(&self) -> Errand
+        ensures { result ≡ errand_of self.now }
+    {
+        Errand {
+            request: None,
+            reply: None,
+            commits: matches!(&self.inside, OutForm::CommitLogged(_)),
+        }
+    }
+
+    /// What is on its way after a step that came to this and was made for a transaction.
+    pub(crate) fn sent_on(&self, errand: Errand) -> Errand
+        ensures { result ≡ sent_on errand self.now }
+    {
+        match &self.inside {
+            OutForm::Sent(number) => Errand {
+                request: Some(*number),
+                reply: None,
+                commits: errand.commits,
+            },
+            OutForm::Replied(number) => Errand {
+                request: errand.request,
+                reply: Some(*number),
+                commits: errand.commits,
+            },
+            _ => errand,
+        }
+    }
+
+    /// This number where a request was sent, else 0.
+    pub(crate) fn if_sent(&self, low: u64) -> u64
+        ensures { result ≡ if_sent low self.now }
+    {
+        match &self.inside {
+            OutForm::Sent(_) => low,
+            _ => 0,
+        }
+    }
+
+    /// Whether it tells a transaction that it has committed.
+    pub(crate) fn tells_commit(&self) -> bool
+        ensures { result ≡ tells_commit self.now }
+    {
+        match &self.inside {
+            OutForm::Other(out) => match &**out {
+                Out::Stable { committed, .. } | Out::Connects { committed, .. } => {
+                    !committed.as_slice().is_empty()
+                }
+                _ => false,
+            },
+            _ => false,
+        }
     }
 }

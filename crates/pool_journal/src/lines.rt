@@ -231,7 +231,6 @@ impl<J: Naming> Lines<J> {
         make_room(rt, tokens);
         make_room(rt, asked);
         let last = last_of(tokens);
-        tc.meet(row, visitor, &last);
         let asks = step.sent.is_some();
         let before = traced::<J>(row, &last);
         let token = pushed(rt, row, Entry { step, before });
@@ -270,7 +269,6 @@ impl<J: Naming> Lines<J> {
         make_room(rt, tokens);
         make_room(rt, given);
         let last = last_of(tokens);
-        dc.meet(row, visitor, &last);
         let gives = step.given.is_some();
         let before = traced::<J>(row, &last);
         let token = pushed(rt, row, Entry { step, before });

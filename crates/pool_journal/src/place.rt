@@ -1,17 +1,16 @@
 //! What the journal keeps of a session.
-ghost use Rattle.std.specs.Prelude.{◌≡◌, ◌+◌, [], cond};
-ghost use Rattle.std.specs.Prelude.{Some};
-ghost use Rattle.pool_journal.specs.Kept.{PlaceKept, place_after, place_worked, kind_of, told_kind};
-ghost use Rattle.pool_journal.specs.Sessions.{line_to, is_among, is_pending, live_after, calls_as, cuts_off};
+ghost use Rattle.std.specs.Prelude.{◌≡◌, ◌+◌, [], Some};
+ghost use Rattle.pool_journal.specs.Kept.{PlaceKept, place_after, place_worked, told_kind};
+ghost use Rattle.pool_journal.specs.Sessions.{calls_as};
 
 use crate::entry::Entry;
 use crate::errand::Errand;
 use crate::failure::Failure;
 use crate::naming::Naming;
+use crate::step::Step;
+use crate::told::Told;
 use crate::view::Party;
 use boxcar::Pushed;
-use node_laws::{Event, Out};
-use tc_core::Committed;
 use tie::Book;
 
 /// A session's place: its side of what the session has seen, the transaction whose lines are the session's, whether its
@@ -26,66 +25,6 @@ pub struct Place<J: Naming> {
     pub(crate) line: Option<Pushed<Entry>>,
     pub(crate) errand: Errand,
     pub(crate) failed: Option<Failure>,
-}
-
-/// What an output tells a transaction.
-#[derive(Debug, Clone, Copy, PartialEq, Eq)]
-pub enum Told {
-    Nothing,
-    Line,
-    /// A line after which the transaction has ended.
-    End,
-}
-
-// This kind, if it is so.
-fn kind_if(is: bool, kind: Told) -> Told
-    ensures { result ≡ cond is kind Told.Nothing }
-{
-    if is { kind } else { Told::Nothing }
-}
-
-// Whether the transaction is among them.
-fn is_among(txn: u64, committed: &Committed) -> bool
-    ensures { result ≡ is_among txn committed.now }
-{
-    committed.as_slice().contains(&txn)
-}
-
-/// What an output tells a transaction.
-pub fn told_to(txn: u64, out: &Out) -> Told
-    ensures { result ≡ kind_of (line_to txn out.now) }
-{
-    match out {
-        Out::Answered { txn: of, .. } | Out::Row { txn: of, .. } | Out::Rows { txn: of, .. } => {
-            kind_if(*of == txn, Told::Line)
-        }
-        Out::Back { txn: of, .. } => kind_if(*of == txn, Told::Line),
-        Out::RolledBack(of) | Out::Lost(of) => kind_if(*of == txn, Told::End),
-        Out::Stable { committed, .. } | Out::Connects { committed, .. } => {
-            kind_if(is_among(txn, committed), Told::End)
-        }
-        _ => Told::Nothing,
-    }
-}
-
-/// Whether more is told of a call that came to this.
-pub fn is_pending(out: &Out) -> bool
-    ensures { result ≡ is_pending out.now }
-{
-    matches!(
-        out,
-        Out::Logged(_) | Out::Asked(_) | Out::RollingBack | Out::CommitLogged(_)
-    )
-}
-
-/// The transaction whose lines are a session's once a call of its came to this.
-pub fn live_after(live: Option<u64>, out: &Out) -> Option<u64>
-    ensures { result ≡ live_after live out.now }
-{
-    match out {
-        Out::Begun(txn) => Some(*txn),
-        _ => live,
-    }
 }
 
 impl<J: Naming> Place<J> {
@@ -111,17 +50,17 @@ impl<J: Naming> Place<J> {
     }
 
     // A step that was made for its transaction goes on, or fails.
-    fn work(&mut self, txn: u64, event: &Event, out: &Out)
+    fn work(&mut self, txn: u64, step: &Step)
         requires { self.old.live ≡ Some txn }
-        ensures { self.new ≡ place_worked event.now out.now self.old }
+        ensures { self.new ≡ place_worked step.now.event step.now.out self.old }
     {
-        if !self.errand.serves(txn, event) {
+        if !step.event.serves(txn, &self.errand) {
             return;
         }
-        if let Some(failure) = Failure::of(out) {
+        if let Some(failure) = step.out.failure() {
             self.failed = Some(failure);
         }
-        self.errand = self.errand.sent_on(out);
+        self.errand = step.out.sent_on(self.errand);
     }
 
     // A line is told to it. Only the first one told of a call counts.
@@ -138,24 +77,23 @@ impl<J: Naming> Place<J> {
     }
 
     /// An entry that is no call of its session may be made for it, tell it a line, or cut it off.
-    pub fn hear(&mut self, entry: &Entry, event: &Event, out: &Out, token: &Pushed<Entry>)
-        requires entry { entry.now ≡ token.now.value }
-        requires event { event.now ≡ token.now.value.step.value.event }
-        requires out { out.now ≡ token.now.value.step.value.out }
+    pub fn hear(&mut self, entry: &Entry, token: &Pushed<Entry>)
+        requires { entry.now ≡ token.now.value }
         ensures { self.new ≡ place_after token.now self.old }
     {
-        if is_call_of(entry.step.caller, self.number) {
-            return;
-        }
-        if cuts_off(event) {
-            self.live = None;
-            return;
-        }
         let Some(txn) = self.live else {
             return;
         };
-        self.work(txn, event, out);
-        let kind = told_to(txn, out);
+        let step = &entry.step;
+        if is_call_of(step.caller, self.number) {
+            return;
+        }
+        if step.event.cuts_off() {
+            self.live = None;
+            return;
+        }
+        self.work(txn, step);
+        let kind = step.out.told_to(txn);
         if kind != Told::Nothing {
             self.tell(kind, token);
         }
@@ -170,11 +108,4 @@ fn is_call_of(caller: Option<u64>, session: u64) -> bool
         Some(number) => number == session,
         None => false,
     }
-}
-
-// Whether it cuts every session's transaction off.
-fn cuts_off(event: &Event) -> bool
-    ensures { result ≡ cuts_off event.now }
-{
-    matches!(event, Event::CrashTc { .. })
 }

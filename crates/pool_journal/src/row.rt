@@ -9,6 +9,8 @@ use std::sync::Wait;
 use std::thread;
 
 /// A value in a box. Where memory for it is refused it is tried again until it is made.
+// Apart, since room for the value that comes back is filled with zeros where a function begins.
+#[inline(never)]
 pub fn boxed<T, R: Wait>(rt: &R, alloc: Global, value: T) -> Box<T>
     ensures { result.value ≡ value }
 {

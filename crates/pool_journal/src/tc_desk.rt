@@ -1,16 +1,18 @@
 //! What lies under the lock of the transaction component.
-ghost use Rattle.std.specs.Prelude.{◌≡◌, ◌+◌, ◌≤◌, true, false, max, IsTrue, None, Some, IfOk, IfSome};
+ghost use Rattle.std.specs.Prelude.{◌≡◌, ◌+◌, ◌≤◌, ℕ, true, false, max, IsTrue, Option, None, Some, IfOk, IfSome};
 ghost use Rattle.marks.specs.Seen.{raiser, reader};
 ghost use Rattle.tc_core.specs.Kept.{IsTc};
-ghost use Rattle.node_laws.specs.Halves.{of_tc, TcLeads};
+ghost use Rattle.tc_core.specs.Replies.{is_of_another};
+ghost use Rattle.node_laws.specs.declared.event.Event.TheVariants as event;
+ghost use Rattle.node_laws.specs.Halves.{of_tc, TcLeads, TcTakes};
 ghost use Rattle.pool_journal.specs.Desks.{delivers};
-ghost use Rattle.pool_journal.specs.Marking.{announced, low_of, tells_commit, IsLowOf};
+ghost use Rattle.pool_journal.specs.Marking.{announced, low_of, IsLowOf};
 ghost use Rattle.pool_journal.specs.Sessions.{IsCalled, IsClosed};
 ghost use Rattle.pool_journal.specs.Slots.{Shown};
 ghost use Rattle.pool_journal.specs.Steps.{GivesTc, tc_start, count};
 
 use crate::caller::Caller;
-use crate::copying::copied;
+use crate::copying::{copied, lent};
 use crate::entry::Entry;
 use crate::hall::Hall;
 use crate::holding::hold;
@@ -126,7 +128,7 @@ impl<J: Naming, D: CrashLog> TcDesk<J, D> {
             visitor,
             seat,
         } = self;
-        let (step, after) = stepped(rt, *alloc, side, *sent, None, event, None);
+        let (step, after) = stepped(rt, *alloc, side, *sent, None, event);
         *sent = after;
         mark(hall.marks(), seat, side, &step);
         hold(rt, journal).enter_tc(rt, hall.row(), visitor, step)
@@ -156,7 +158,7 @@ impl<J: Naming, D: CrashLog> TcDesk<J, D> {
             visitor,
             seat,
         } = self;
-        let (step, after) = stepped(rt, *alloc, side, *sent, Some(caller.number()), event, None);
+        let (step, after) = stepped(rt, *alloc, side, *sent, Some(caller.number()), event);
         *sent = after;
         mark(hall.marks(), seat, side, &step);
         hold(rt, journal).call(rt, hall.row(), visitor, step, caller)
@@ -175,7 +177,7 @@ impl<J: Naming, D: CrashLog> TcDesk<J, D> {
         let TcDesk {
             alloc,
             side,
-            sent,
+            sent: _,
             visitor,
             seat,
         } = self;
@@ -183,17 +185,7 @@ impl<J: Naming, D: CrashLog> TcDesk<J, D> {
         let Some(reply) = hall.row().value(&given).given() else {
             return Err(Unsent);
         };
-        let reply = copy(rt, reply);
-        let (step, after) = stepped(
-            rt,
-            *alloc,
-            side,
-            *sent,
-            None,
-            Event::Reply { number },
-            Some(reply),
-        );
-        *sent = after;
+        let step = taken(rt, *alloc, side, number, reply);
         mark(hall.marks(), seat, side, &step);
         Ok(hold(rt, journal).enter_tc(rt, hall.row(), visitor, step))
     }
@@ -210,7 +202,7 @@ impl<J: Naming, D: CrashLog> TcDesk<J, D> {
         ensures low { IfSome result.1 (λ token. Shown J.entries token) }
     {
         let token = self.enter(rt, hall, journal, Event::Force);
-        if !tells_commit(hall.row().value(&token).out().get()) {
+        if !hall.row().value(&token).step.out.tells_commit() {
             return (None, None);
         }
         let tell = self.enter(rt, hall, journal, Event::Tell);
@@ -311,30 +303,6 @@ fn copy<R: Wait>(rt: &R, reply: &Reply) -> Reply
     unreachable!()
 }
 
-// The number that was announced, 0 where none was.
-fn low_sent(step: &Step) -> u64
-    ensures { result ≡ low_of step.now.event step.now.out }
-{
-    let event = step.event.lent();
-    let out = step.out.lent();
-    match (event.get(), out.get()) {
-        (Event::LowWater { low }, Out::Sent(_)) => *low,
-        _ => 0,
-    }
-}
-
-// Whether it tells a transaction that it has committed.
-fn tells_commit(out: &Out) -> bool
-    ensures { result ≡ tells_commit out.now }
-{
-    match out {
-        Out::Stable { committed, .. } | Out::Connects { committed, .. } => {
-            !committed.as_slice().is_empty()
-        }
-        _ => false,
-    }
-}
-
 // The marks show what a step told: a commit, how much of the log is stable; a low mark, that number.
 fn mark<D: CrashLog>(marks: &Marks, seat: &mut Seat, side: &TcSide<D>, step: &Box<Step>)
     requires seat { (seat.old.marks ≡ marks.now) × IsTrue seat.old.raises }
@@ -344,8 +312,8 @@ fn mark<D: CrashLog>(marks: &Marks, seat: &mut Seat, side: &TcSide<D>, step: &Bo
     ensures stable { seat.new.stable ≤ side.now.tc.stable }
     ensures low { seat.new.low ≡ max seat.old.low (low_of step.now.value.event step.now.value.out) }
 {
-    let low = low_sent(step);
-    if low == 0 && !tells_commit(step.out.lent().get()) {
+    let low = step.event.low_sent(&step.out);
+    if low == 0 && !step.out.tells_commit() {
         return;
     }
     let Ok(end) = side.stable_end() else {
@@ -355,7 +323,56 @@ fn mark<D: CrashLog>(marks: &Marks, seat: &mut Seat, side: &TcSide<D>, step: &Bo
     marks.raise_low(seat, low);
 }
 
-// One step of the component, and how many messages it has sent then.
+// Whether this session runs.
+fn runs<D: CrashLog>(side: &TcSide<D>, session: u64) -> bool
+    ensures { result ≡ true → is_of_another side.now.tc.session session ≡ false }
+{
+    match side.session() {
+        Ok(own) => own != 0 && session == own,
+        Err(_) => false,
+    }
+}
+
+// The component takes a reply. An answer of the session that runs is lent to it, another reply is copied.
+fn deliver<D: CrashLog, R: Wait>(rt: &R, side: &mut TcSide<D>, reply: &Reply, out: &mut Out)
+    ensures takes { TcTakes side.old (Some reply.now) out.new side.new }
+    ensures kept { IsTc side.new.tc }
+{
+    match reply {
+        Reply::Answered {
+            session,
+            number,
+            answer,
+        } if runs(side, *session) => side.hear(*number, lent(answer).as_ref(), out),
+        _ => side.take(copy(rt, reply), out),
+    }
+}
+
+// The step by which the component takes a reply. It sends nothing.
+fn taken<D: CrashLog, R: Wait>(
+    rt: &R,
+    alloc: Global,
+    side: &mut TcSide<D>,
+    number: u64,
+    reply: &Reply,
+) -> Box<Step>
+    ensures caller { result.value.caller ≡ None }
+    ensures event { result.value.event ≡ event.Reply number }
+    ensures none { result.value.given ≡ None }
+    ensures leads { (next : Option ℕ)
+        → TcLeads side.old next (event.Reply number) (Some reply.now) result.value.out result.value.sent side.new }
+    ensures sent { (sent : ℕ) → sent ≡ sent + count result.value.sent }
+    ensures kept { IsTc side.old.tc }
+{
+    side.kept();
+    let mut out = Out::Nothing;
+    deliver(rt, side, reply, &mut out);
+    let event = KeptEvent::of(rt, alloc, Event::Reply { number });
+    let out = KeptOut::of(rt, alloc, out);
+    boxed(rt, alloc, Step::new(None, event, out))
+}
+
+// One step of the component that takes no reply, and how many messages it has sent then.
 fn stepped<D: CrashLog, R: Wait>(
     rt: &R,
     alloc: Global,
@@ -363,20 +380,19 @@ fn stepped<D: CrashLog, R: Wait>(
     sent: u64,
     caller: Option<u64>,
     event: Event,
-    reply: Option<Reply>,
 ) -> (Box<Step>, u64)
     requires tc { of_tc event ≡ true }
     ensures caller { result.0.value.caller ≡ caller }
     ensures event { result.0.value.event ≡ event }
     ensures none { result.0.value.given ≡ None }
-    ensures leads { TcLeads side.old (Some (sent + 1)) event reply result.0.value.out result.0.value.sent side.new }
+    ensures leads { TcLeads side.old (Some (sent + 1)) event None result.0.value.out result.0.value.sent side.new }
     ensures sent { result.1 ≡ sent + count result.0.value.sent }
     ensures kept { IsTc side.old.tc }
 {
     side.kept();
     let next = next_number(rt, sent);
-    let mut request = None;
-    let out = side.step(&event, reply, Some(next), &mut request);
+    let (mut request, mut out) = (None, Out::Nothing);
+    side.call(&event, Some(next), &mut request, &mut out);
     let after = if request.is_some() { next } else { sent };
     let step = Step {
         caller,

@@ -10,7 +10,7 @@ use crate::ended::{Ended, why};
 use crate::told::Told;
 use codec::Rows;
 use node_laws::{Event, Out};
-use pool_journal::{Hall, Naming, copied_value};
+use pool_journal::{Hall, KeptOut, Naming, OutForm, copied_value};
 use record_key::{Answer, Refusal, Value};
 use std::sync::Wait;
 use std::thread;
@@ -27,25 +27,22 @@ pub fn answer_told<J: Naming>(hall: &Hall<J>, ended: &Ended) -> Result<Answer, R
     let row = hall.row();
     match ended {
         Ended::CutOff => Err(Refusal::NotConnected),
-        Ended::AtOnce(call) => Err(why(row.value(call).out().get())),
+        Ended::AtOnce(call) => Err(why(row.value(call).out())),
         Ended::Unfinished(_, failure) => Err(failure.refusal()),
-        Ended::Told(call, line) => answer_of(
-            row.value(call).out().get(),
-            row.value(line).out().get(),
-        ),
+        Ended::Told(call, line) => answer_of(row.value(call).out(), row.value(line).out()),
     }
 }
 
 // The answer of a logged operation.
-fn answer_of(call: &Out, line: &Out) -> Result<Answer, Refusal>
+fn answer_of(call: &KeptOut, line: &KeptOut) -> Result<Answer, Refusal>
     ensures told { IfOk result (λ answer.
         ((n : ℕ) × (call.now ≡ out.Logged n))
         × ((u : ℕ) × (line.now ≡ out.Answered u answer))) }
     ensures refused { IfErr result (λ r. (r ≡ Refusal.NotConnected)
         × (both (is_logged call.now) (gives_answer line.now) ≡ false)) }
 {
-    match (call, line) {
-        (Out::Logged(_), Out::Answered { txn: _, answer }) => Ok(answer.copied()),
+    match (call.form(), line.other()) {
+        (OutForm::Logged(_), Some(Out::Answered { txn: _, answer })) => Ok(answer.copied()),
         _ => Err(Refusal::NotConnected),
     }
 }
@@ -62,22 +59,22 @@ pub fn row_told<J: Naming>(hall: &Hall<J>, ended: &Ended) -> Result<Option<Value
     let row = hall.row();
     match ended {
         Ended::CutOff => Err(Refusal::NotConnected),
-        Ended::AtOnce(call) => Err(why(row.value(call).out().get())),
+        Ended::AtOnce(call) => Err(why(row.value(call).out())),
         Ended::Unfinished(_, failure) => Err(failure.refusal()),
-        Ended::Told(call, line) => row_of(row.value(call).out().get(), row.value(line).out().get()),
+        Ended::Told(call, line) => row_of(row.value(call).out(), row.value(line).out()),
     }
 }
 
 // The value of a read.
-fn row_of(call: &Out, line: &Out) -> Result<Option<Value>, Refusal>
+fn row_of(call: &KeptOut, line: &KeptOut) -> Result<Option<Value>, Refusal>
     ensures told { IfOk result (λ value.
         ((n : ℕ) × (call.now ≡ out.Asked n))
         × ((u : ℕ) × (line.now ≡ out.Row u value))) }
     ensures refused { IfErr result (λ r. (r ≡ Refusal.NotConnected)
         × (both (is_asked call.now) (gives_row line.now) ≡ false)) }
 {
-    match (call, line) {
-        (Out::Asked(_), Out::Row { txn: _, value }) => Ok(copied_value(value)),
+    match (call.form(), line.other()) {
+        (OutForm::Asked(_), Some(Out::Row { txn: _, value })) => Ok(copied_value(value)),
         _ => Err(Refusal::NotConnected),
     }
 }
@@ -94,26 +91,22 @@ pub fn rows_told<J: Naming, R: Wait>(rt: &R, hall: &Hall<J>, ended: &Ended) -> R
     let row = hall.row();
     match ended {
         Ended::CutOff => Err(Refusal::NotConnected),
-        Ended::AtOnce(call) => Err(why(row.value(call).out().get())),
+        Ended::AtOnce(call) => Err(why(row.value(call).out())),
         Ended::Unfinished(_, failure) => Err(failure.refusal()),
-        Ended::Told(call, line) => rows_of(
-            rt,
-            row.value(call).out().get(),
-            row.value(line).out().get(),
-        ),
+        Ended::Told(call, line) => rows_of(rt, row.value(call).out(), row.value(line).out()),
     }
 }
 
 // The rows of a read. Where memory for them is refused it is tried again until they are made.
-fn rows_of<R: Wait>(rt: &R, call: &Out, line: &Out) -> Result<Rows, Refusal>
+fn rows_of<R: Wait>(rt: &R, call: &KeptOut, line: &KeptOut) -> Result<Rows, Refusal>
     ensures told { IfOk result (λ rows.
         ((n : ℕ) × (call.now ≡ out.Asked n))
         × ((u : ℕ) × (line.now ≡ out.Rows u rows))) }
     ensures refused { IfErr result (λ r. (r ≡ Refusal.NotConnected)
         × (both (is_asked call.now) (gives_rows line.now) ≡ false)) }
 {
-    match (call, line) {
-        (Out::Asked(_), Out::Rows { txn: _, rows }) => Ok(copies(rt, rows)),
+    match (call.form(), line.other()) {
+        (OutForm::Asked(_), Some(Out::Rows { txn: _, rows })) => Ok(copies(rt, rows)),
         _ => Err(Refusal::NotConnected),
     }
 }
@@ -130,25 +123,22 @@ pub fn back_told<J: Naming>(hall: &Hall<J>, ended: &Ended) -> Result<(), Refusal
     let row = hall.row();
     match ended {
         Ended::CutOff => Err(Refusal::NotConnected),
-        Ended::AtOnce(call) => Err(why(row.value(call).out().get())),
+        Ended::AtOnce(call) => Err(why(row.value(call).out())),
         Ended::Unfinished(_, failure) => Err(failure.refusal()),
-        Ended::Told(call, line) => back_of(
-            row.value(call).out().get(),
-            row.value(line).out().get(),
-        ),
+        Ended::Told(call, line) => back_of(row.value(call).out(), row.value(line).out()),
     }
 }
 
 // That it is back.
-fn back_of(call: &Out, line: &Out) -> Result<(), Refusal>
+fn back_of(call: &KeptOut, line: &KeptOut) -> Result<(), Refusal>
     ensures told { IfOk result (λ done.
         (call.now ≡ out.RollingBack)
         × ((u : ℕ) × (s : ℕ) × (line.now ≡ out.Back u s))) }
     ensures refused { IfErr result (λ r. (r ≡ Refusal.NotConnected)
         × (both (is_rolling call.now) (gives_back line.now) ≡ false)) }
 {
-    match (call, line) {
-        (Out::RollingBack, Out::Back { .. }) => Ok(()),
+    match (call.form(), line.other()) {
+        (OutForm::RollingBack, Some(Out::Back { .. })) => Ok(()),
         _ => Err(Refusal::NotConnected),
     }
 }
@@ -165,23 +155,20 @@ pub fn rollback_told<J: Naming>(hall: &Hall<J>, ended: &Ended) -> Result<(), Ref
     let row = hall.row();
     match ended {
         Ended::CutOff => Err(Refusal::NotConnected),
-        Ended::AtOnce(call) => Err(why(row.value(call).out().get())),
+        Ended::AtOnce(call) => Err(why(row.value(call).out())),
         Ended::Unfinished(_, failure) => Err(failure.refusal()),
-        Ended::Told(call, line) => rollback_of(
-            row.value(call).out().get(),
-            row.value(line).out().get(),
-        ),
+        Ended::Told(call, line) => rollback_of(row.value(call).out(), row.value(line).out()),
     }
 }
 
 // That it is rolled back.
-fn rollback_of(call: &Out, line: &Out) -> Result<(), Refusal>
+fn rollback_of(call: &KeptOut, line: &KeptOut) -> Result<(), Refusal>
     ensures told { IfOk result (λ done. (call.now ≡ out.RollingBack) × ((u : ℕ) × (line.now ≡ out.RolledBack u))) }
     ensures refused { IfErr result (λ r. (r ≡ Refusal.NotConnected)
         × (both (is_rolling call.now) (gives_rolled_back line.now) ≡ false)) }
 {
-    match (call, line) {
-        (Out::RollingBack, Out::RolledBack(_)) => Ok(()),
+    match (call.form(), line.form()) {
+        (OutForm::RollingBack, OutForm::RolledBack(_)) => Ok(()),
         _ => Err(Refusal::NotConnected),
     }
 }
@@ -198,23 +185,22 @@ pub fn commit_told<J: Naming>(hall: &Hall<J>, ended: &Ended) -> Result<u64, Refu
     let row = hall.row();
     match ended {
         Ended::CutOff => Err(Refusal::NotConnected),
-        Ended::AtOnce(call) => Err(why(row.value(call).out().get())),
+        Ended::AtOnce(call) => Err(why(row.value(call).out())),
         Ended::Unfinished(_, failure) => Err(failure.refusal()),
-        Ended::Told(call, line) => commit_of(
-            row.value(call).out().get(),
-            row.value(line).out().get(),
-        ),
+        Ended::Told(call, line) => commit_of(row.value(call).out(), row.value(line).out()),
     }
 }
 
 // The number of the record.
-fn commit_of(call: &Out, line: &Out) -> Result<u64, Refusal>
+fn commit_of(call: &KeptOut, line: &KeptOut) -> Result<u64, Refusal>
     ensures told { IfOk result (λ number. (call.now ≡ out.CommitLogged number) × TellsCommit line.now) }
     ensures refused { IfErr result (λ r. (r ≡ Refusal.NotConnected)
         × (both (is_commit_logged call.now) (gives_commit line.now) ≡ false)) }
 {
-    match (call, line) {
-        (Out::CommitLogged(number), Out::Stable { .. } | Out::Connects { .. }) => Ok(*number),
+    match (call.form(), line.other()) {
+        (OutForm::CommitLogged(number), Some(Out::Stable { .. } | Out::Connects { .. })) => {
+            Ok(*number)
+        }
         _ => Err(Refusal::NotConnected),
     }
 }
@@ -235,18 +221,13 @@ pub fn carried_told<J: Naming, R: Wait>(
         Ended::Told(call, line) => {
             let step = &hall.row().value(call).step;
             let event = step.event.lent();
-            told_of(
-                rt,
-                event.get(),
-                step.out.lent().get(),
-                hall.row().value(line).out().get(),
-            )
+            told_of(rt, event.get(), &step.out, hall.row().value(line).out())
         }
     }
 }
 
 // What is told of a call by a line.
-fn told_of<R: Wait>(rt: &R, event: &Event, call: &Out, line: &Out) -> Result<Told, Refusal>
+fn told_of<R: Wait>(rt: &R, event: &Event, call: &KeptOut, line: &KeptOut) -> Result<Told, Refusal>
     ensures told { IfOk result (IsGiven event.now call.now line.now) }
     ensures refused { IfErr result (λ r. (r ≡ Refusal.NotConnected)
         × (is_given event.now call.now line.now ≡ false)) }
@@ -277,10 +258,13 @@ pub fn saved<J: Naming>(hall: &Hall<J>, ended: &Ended) -> Result<u64, Refusal>
     match ended {
         Ended::CutOff | Ended::Told(_, _) => Err(Refusal::NotConnected),
         Ended::Unfinished(_, failure) => Err(failure.refusal()),
-        Ended::AtOnce(call) => match hall.row().value(call).out().get() {
-            Out::Saved(savepoint) => Ok(*savepoint),
-            out => Err(why(out)),
-        },
+        Ended::AtOnce(call) => {
+            let out = hall.row().value(call).out();
+            match out.other() {
+                Some(Out::Saved(savepoint)) => Ok(*savepoint),
+                _ => Err(why(out)),
+            }
+        }
     }
 }
 
@@ -293,10 +277,13 @@ pub fn begun<J: Naming>(hall: &Hall<J>, ended: &Ended) -> Result<u64, Refusal>
     match ended {
         Ended::CutOff | Ended::Told(_, _) => Err(Refusal::NotConnected),
         Ended::Unfinished(_, failure) => Err(failure.refusal()),
-        Ended::AtOnce(call) => match hall.row().value(call).out().get() {
-            Out::Begun(txn) => Ok(*txn),
-            out => Err(why(out)),
-        },
+        Ended::AtOnce(call) => {
+            let out = hall.row().value(call).out();
+            match out.form() {
+                OutForm::Begun(txn) => Ok(*txn),
+                _ => Err(why(out)),
+            }
+        }
     }
 }
 

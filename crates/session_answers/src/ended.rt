@@ -4,8 +4,7 @@ ghost use Rattle.session_answers.specs.Unfinished.{bar_of, left_by};
 ghost use Rattle.session_answers.specs.Why.{why_of};
 
 use boxcar::Pushed;
-use node_laws::Out;
-use pool_journal::{Entry, Failure};
+use pool_journal::{Entry, Failure, KeptOut, OutForm};
 use record_key::Refusal;
 
 /// A call that has its entry, and more is to be told of it: its transaction, and that entry.
@@ -51,23 +50,23 @@ pub fn left_by(ended: &Ended) -> Option<Unfinished>
 }
 
 /// Why a call is refused that came to this.
-pub(crate) fn why(out: &Out) -> Refusal
+pub(crate) fn why(out: &KeptOut) -> Refusal
     ensures { result ≡ why_of out.now }
 {
-    match out {
-        Out::Refused(refusal) => *refusal,
+    match out.form() {
+        OutForm::Refused(refusal) => *refusal,
         _ => Refusal::NotConnected,
     }
 }
 
 /// Why the other calls of a transaction are refused one of whose calls came to this, as long as that is unfinished: as the
 /// transaction component refuses them.
-pub fn bar(out: &Out) -> Refusal
+pub fn bar(out: &KeptOut) -> Refusal
     ensures { result ≡ bar_of out.now }
 {
-    match out {
-        Out::RollingBack => Refusal::RollingBack,
-        Out::CommitLogged(_) => Refusal::NotOpen,
+    match out.form() {
+        OutForm::RollingBack => Refusal::RollingBack,
+        OutForm::CommitLogged(_) => Refusal::NotOpen,
         _ => Refusal::Unanswered,
     }
 }

@@ -2,14 +2,13 @@
 ghost use Rattle.std.specs.Prelude.{◌≡◌, ℕ, true, false, Some, None, IfSome};
 ghost use Rattle.pool_journal.specs.Callers.{IsNews, IsUntold};
 ghost use Rattle.pool_journal.specs.Sessions.{IsClosed, calls, line_of};
-ghost use Rattle.pool_journal.specs.Lending.{lent};
 ghost use Rattle.pool_journal.specs.Slots.{Shown};
 
 use crate::after::After;
 use boxcar::Pushed;
 use crossbeam_channel::Sender;
-use node_laws::{Event, Out};
-use pool_journal::{Caller, Entry, Hall, Journal, Lent, Naming, News, hold};
+use node_laws::Event;
+use pool_journal::{Caller, Entry, Hall, Journal, KeptOut, Naming, News, OutForm, hold};
 use std::sync::atomic::{AtomicU64, Ordering};
 use std::sync::{Condvar, Mutex, Wait};
 
@@ -137,9 +136,9 @@ impl<J: Naming> Board<J> {
     }
 
     /// What an entry came to.
-    pub(crate) fn out(&self, token: &Pushed<Entry>) -> Lent<'_, Out>
+    pub(crate) fn out(&self, token: &Pushed<Entry>) -> &KeptOut
         requires shown { Shown J.entries token.now }
-        ensures { lent result ≡ token.now.value.step.value.out }
+        ensures { result.now ≡ token.now.value.step.value.out }
     {
         self.hall.row().value(token).out()
     }
@@ -161,7 +160,7 @@ impl<J: Naming> Board<J> {
     pub(crate) fn hand_over<R: Wait>(&self, rt: &R, work: &Sender<Job>, token: &Pushed<Entry>)
         requires shown { Shown J.entries token.now }
     {
-        if let Out::Sent(number) = self.out(token).get() {
+        if let OutForm::Sent(number) = self.out(token).form() {
             let job = Job {
                 number: *number,
                 session: None,

@@ -14,7 +14,7 @@ use crate::freeing::free;
 use crate::shared::Shared;
 use crate::steps::Rest;
 use crossbeam_channel::Sender;
-use pool_journal::{Caller, Gate, Naming, News, is_pending};
+use pool_journal::{Caller, Gate, Naming, News};
 use record_key::Refusal;
 use session_answers::{Ask, Ended, Unfinished, left_by};
 use stable::{CrashLog, CrashPages};
@@ -39,7 +39,7 @@ impl<J: Naming, G: Gate, D: CrashLog, P: CrashPages> Shared<J, G, D, P> {
         let board = &self.entrance.board;
         let session = caller.number();
         let Unfinished { txn, call } = call;
-        let rest = Rest::of(board.out(&call).get());
+        let rest = Rest::of(board.out(&call));
         for _ in rt.forever() {
             match board.look(rt, caller) {
                 News::Line(line) => return Ended::Told(call, line),
@@ -68,7 +68,7 @@ impl<J: Naming, G: Gate, D: CrashLog, P: CrashPages> Shared<J, G, D, P> {
         ensures ends { Finishes J.entries call.call caller.old.part result caller.new.part }
         ensures rest { IsBetweenCalls J.entries caller.new.part (left_by result) }
     {
-        if !is_pending(self.entrance.board.out(&call.call).get()) {
+        if !self.entrance.board.out(&call.call).is_pending() {
             let Unfinished { txn: _, call } = call;
             return Ended::AtOnce(call);
         }

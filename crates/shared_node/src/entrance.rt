@@ -13,8 +13,8 @@ ghost use Rattle.session_answers.specs.Asking.{event_of};
 use crate::board::Board;
 use boxcar::Pushed;
 use marks::Seat;
-use node_laws::{Event, Out};
-use pool_journal::{Caller, Entry, Naming, Next, TcDesk, hold};
+use node_laws::Event;
+use pool_journal::{Caller, Entry, KeptOut, Naming, Next, OutForm, TcDesk, hold};
 use session_answers::Ask;
 use stable::CrashLog;
 use std::sync::{Mutex, Wait};
@@ -34,8 +34,8 @@ pub struct Entrance<J: Naming, D: CrashLog> {
 }
 
 // Whether a call that came to this has a request.
-fn has_request(out: &Out) -> bool {
-    matches!(out, Out::Logged(_) | Out::Asked(_))
+fn has_request(out: &KeptOut) -> bool {
+    matches!(out.form(), OutForm::Logged(_) | OutForm::Asked(_))
 }
 
 impl<J: Naming, D: CrashLog> Entrance<J, D> {
@@ -69,7 +69,7 @@ impl<J: Naming, D: CrashLog> Entrance<J, D> {
         let mut desk = hold(rt, tc);
         let txn = board.see(rt, caller)?;
         let token = desk.call(rt, &board.hall, &board.journal, ask.into_event(txn), caller);
-        let sent = if has_request(board.out(&token).get()) {
+        let sent = if has_request(board.out(&token)) {
             Some(desk.enter(rt, &board.hall, &board.journal, Event::Send { txn }))
         } else {
             None

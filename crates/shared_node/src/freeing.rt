@@ -28,7 +28,7 @@ pub(crate) fn free<J: Naming, R: Wait>(
     let Some(earlier) = &*unfinished else {
         return Ok(());
     };
-    let refusal = bar(board.out(&earlier.call).get());
+    let refusal = bar(board.out(&earlier.call));
     if !board.take_cut(rt, caller) {
         return Err(refusal);
     }

@@ -7,7 +7,7 @@ ghost use Rattle.pool_journal.specs.Desks.{delivers};
 use crate::shared::Shared;
 use codec::{Reply, Request};
 use node_laws::{Event, Out};
-use pool_journal::{Gate, Naming, Next};
+use pool_journal::{Gate, KeptOut, Naming, Next, OutForm};
 use record_key::Refusal;
 use stable::{CrashLog, CrashPages};
 use std::sync::Wait;
@@ -22,13 +22,13 @@ impl Gate for Nobody {
 }
 
 // Whether a round goes on that came to this. Refused for want of memory or numbers, and where a device failed.
-fn passed(out: &Out) -> Result<bool, Refusal>
+fn passed(out: &KeptOut) -> Result<bool, Refusal>
     ensures { IfErr result IsOutage }
 {
-    match out {
-        Out::Refused(Refusal::NoMemory) => Err(Refusal::NoMemory),
-        Out::Refused(Refusal::Device) => Err(Refusal::Device),
-        Out::Refused(Refusal::NumbersSpent) => Err(Refusal::NumbersSpent),
+    match out.form() {
+        OutForm::Refused(Refusal::NoMemory) => Err(Refusal::NoMemory),
+        OutForm::Refused(Refusal::Device) => Err(Refusal::Device),
+        OutForm::Refused(Refusal::NumbersSpent) => Err(Refusal::NumbersSpent),
         _ => Ok(true),
     }
 }
@@ -79,7 +79,7 @@ impl<J: Naming, G, D: CrashLog, P: CrashPages> Shared<J, G, D, P> {
             .dc
             .lock(rt)
             .turn(rt, board.hall.row(), &board.journal, Event::RestartDc);
-        passed(board.out(&token).get())
+        passed(board.out(&token))
     }
 
     // An event of the transaction component.
@@ -89,7 +89,7 @@ impl<J: Naming, G, D: CrashLog, P: CrashPages> Shared<J, G, D, P> {
         ensures { IfErr result IsOutage }
     {
         let token = self.entrance.enter(rt, event);
-        passed(self.entrance.board.out(&token).get())
+        passed(self.entrance.board.out(&token))
     }
 
     // An event that sends a request, which is served, and its reply taken.
@@ -100,9 +100,9 @@ impl<J: Naming, G, D: CrashLog, P: CrashPages> Shared<J, G, D, P> {
     {
         let token = self.entrance.enter(rt, event);
         let out = self.entrance.board.out(&token);
-        match number_sent(out.get()) {
+        match number_sent(out) {
             Some(number) => self.serve_up(rt, number),
-            None => passed(out.get()),
+            None => passed(out),
         }
     }
 
@@ -119,20 +119,20 @@ impl<J: Naming, G, D: CrashLog, P: CrashPages> Shared<J, G, D, P> {
             return Ok(true);
         };
         let out = board.out(&token);
-        let Out::Replied(reply) = out.get() else {
-            return passed(out.get());
+        let OutForm::Replied(reply) = out.form() else {
+            return passed(out);
         };
         match self.entrance.take(rt, *reply) {
-            Some(token) => passed(board.out(&token).get()),
+            Some(token) => passed(board.out(&token)),
             None => Ok(true),
         }
     }
 }
 
 // The number of the request that was sent, if one was.
-fn number_sent(out: &Out) -> Option<u64> {
-    match out {
-        Out::Connects { request, .. } | Out::Sent(request) => Some(*request),
+fn number_sent(out: &KeptOut) -> Option<u64> {
+    match (out.form(), out.other()) {
+        (OutForm::Sent(request), _) | (_, Some(Out::Connects { request, .. })) => Some(*request),
         _ => None,
     }
 }

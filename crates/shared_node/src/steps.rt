@@ -7,8 +7,8 @@ use crate::board::Job;
 use crate::shared::Shared;
 use boxcar::Pushed;
 use crossbeam_channel::Sender;
-use node_laws::{Event, Out};
-use pool_journal::{Entry, Gate, Naming, hold_soon};
+use node_laws::Event;
+use pool_journal::{Entry, Gate, KeptOut, Naming, OutForm, hold_soon};
 use record_key::Refusal;
 use stable::{CrashLog, CrashPages};
 use std::sync::Wait;
@@ -26,10 +26,10 @@ pub(crate) enum Rest {
 
 impl Rest {
     /// What is left to do of a call that came to this.
-    pub(crate) fn of(out: &Out) -> Rest {
-        match out {
-            Out::RollingBack => Rest::Undo,
-            Out::CommitLogged(_) => Rest::Force,
+    pub(crate) fn of(out: &KeptOut) -> Rest {
+        match out.form() {
+            OutForm::RollingBack => Rest::Undo,
+            OutForm::CommitLogged(_) => Rest::Force,
             _ => Rest::Request,
         }
     }
@@ -47,9 +47,9 @@ impl<J: Naming, G: Gate, D: CrashLog, P: CrashPages> Shared<J, G, D, P> {
     ) -> After
         requires shown { Shown J.entries token.now }
     {
-        match self.entrance.board.out(token).get() {
-            Out::Sent(number) => self.have_served(rt, work, Some(session), token, *number),
-            Out::Refused(Refusal::Unsent | Refusal::NoMemory | Refusal::Device) => After::Look,
+        match self.entrance.board.out(token).form() {
+            OutForm::Sent(number) => self.have_served(rt, work, Some(session), token, *number),
+            OutForm::Refused(Refusal::Unsent | Refusal::NoMemory | Refusal::Device) => After::Look,
             _ => After::Wait,
         }
     }
@@ -85,9 +85,9 @@ impl<J: Naming, G: Gate, D: CrashLog, P: CrashPages> Shared<J, G, D, P> {
     // One step back.
     fn undo<R: Wait>(&self, rt: &R, work: &Sender<Job>, session: u64, txn: u64) -> After {
         let token = self.entrance.enter(rt, Event::Undo { txn });
-        match self.entrance.board.out(&token).get() {
-            Out::Refused(Refusal::NoMemory | Refusal::Device) => After::Look,
-            Out::Compensated(_) | Out::Refused(_) => self.send(rt, work, session, txn),
+        match self.entrance.board.out(&token).form() {
+            OutForm::Refused(Refusal::NoMemory | Refusal::Device) => After::Look,
+            OutForm::Compensated(_) | OutForm::Refused(_) => self.send(rt, work, session, txn),
             _ => After::Look,
         }
     }
@@ -111,7 +111,7 @@ impl<J: Naming, G: Gate, D: CrashLog, P: CrashPages> Shared<J, G, D, P> {
     fn tell<R: Wait>(&self, rt: &R, work: &Sender<Job>, token: &Pushed<Entry>)
         requires shown { Shown J.entries token.now }
     {
-        if let Out::Sent(number) = self.entrance.board.out(token).get() {
+        if let OutForm::Sent(number) = self.entrance.board.out(token).form() {
             self.have_served(rt, work, None, token, *number);
         }
     }

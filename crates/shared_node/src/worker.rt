@@ -7,8 +7,7 @@ use crate::board::Job;
 use crate::shared::Shared;
 use boxcar::Pushed;
 use crossbeam_channel::Receiver;
-use node_laws::Out;
-use pool_journal::{DcDesk, Entry, Gate, Naming, hold};
+use pool_journal::{DcDesk, Entry, Gate, Naming, OutForm, hold};
 use record_key::Refusal;
 use stable::{CrashLog, CrashPages};
 use std::sync::{MutexGuard, Wait};
@@ -92,12 +91,13 @@ impl<J: Naming, G: Gate, D: CrashLog, P: CrashPages> Shared<J, G, D, P> {
         if let Some(reply) = entry.given() {
             self.gate.after(reply);
         }
-        match entry.out().get() {
-            Out::Replied(reply) => {
+        match entry.out().form() {
+            OutForm::Replied(reply) => {
                 self.entrance.take(rt, *reply);
                 After::Look
             }
-            Out::Refused(Refusal::NotConnected | Refusal::Redoing | Refusal::Stale) => After::Wait,
+            OutForm::Refused(Refusal::NotConnected | Refusal::Redoing | Refusal::Stale) =>
+                After::Wait,
             _ => After::Look,
         }
     }

@@ -1,7 +1,6 @@
 use Rattle.std.proofs.Common.{◌≡◌, ◌<◌, ◌++◌, ◌∷◌, [], ℕ, List, Some, None, ap, sym, ◌∙◌, subst, refl, length, rules, set, map}
 use Rattle.std.proofs.lemmas.Option.{slice_get_read}
 use Rattle.std.specs.Prelude.{slice_get}
-use Rattle.node_laws.specs.declared.event.Out.{Out}
 use Rattle.pool_journal.specs.declared.entry.Entry.{Entry}
 use Rattle.pool_journal.specs.declared.place.Place.{Place}
 use Rattle.pool_journal.specs.declared.step.Step.{Step}
@@ -56,24 +55,21 @@ invariant_of-self g c =
     c.meet.ensures.party
     ∙ ap (λ (es : List Step). record { name = p.party.name; steps = es }) (ap (λ
     (x : Slot). through x.value) c.again.ensures ∙ thr) in
-    let entry : c.value-entry.result.now.step.value ≡ e = ap (λ (x : Entry). x.step.value) c.value-entry.ensures in
+    let entry : c.deref.result.now ≡ e = c.deref.ensures ∙ ap (λ (x : Entry). x.step.value) c.value-entry.ensures in
     let q : Place g.row.J.Denot = record {
       number = p.number;
       party = c.meet.new.self;
       live = c.live_after-place.result;
       awaits = c.is_pending-place.result;
       line = None;
-      errand = c.of-place.result;
+      errand = c.errand-place.result;
       failed = None;
     } in
     let done : PlaceKept J.entries J.names (s.lines ++ e ∷ []) n q =
     called_kept J.entries J.names s.lines n p q e (calls_same e.caller n own) k refl party
-    (c.live_after-place.ensures ∙ ap (λ (o : Out). live_after p.live o) (c.get.ensures ∙ c.out-out.ensures)
-    ∙ ap (λ (x : Step). live_after p.live x.out) entry)
-    (c.is_pending-place.ensures ∙ ap (λ (o : Out). is_pending o) (c.get-2.ensures ∙ c.out-out.ensures)
-    ∙ ap (λ (x : Step). is_pending x.out) entry) refl
-    (c.of-place.ensures ∙ ap (λ (o : Out). errand_of o) (c.get-3.ensures ∙ c.out-out.ensures)
-    ∙ ap (λ (x : Step). errand_of x.out) entry) refl in
+    (c.live_after-place.ensures ∙ ap (λ (x : Step). live_after p.live x.out) entry)
+    (c.is_pending-place.ensures ∙ ap (λ (x : Step). is_pending x.out) entry) refl
+    (c.errand-place.ensures ∙ ap (λ (x : Step). errand_of x.out) entry) refl in
     let kept = places_called J.entries J.names s.lines s.places.items token n q c.self.invariant.0
     c.enter_tc-token.ensures.shown own done in
     let now : s.lines ++ e ∷ [] ≡ c.enter_tc-token.new.self =

@@ -1,4 +1,4 @@
-use Rattle.std.proofs.Common.{◌≡◌, ◌<◌, refl, length, rules}
+use Rattle.std.proofs.Common.{◌<◌, refl, length, rules}
 use Rattle.std.proofs.lemmas.Option.{slice_get_read}
 use Rattle.pool_journal.proofs.Entering.{places_resumed}
 use Rattle.pool_journal.proofs.journal.Journal.resume.Goals as goal

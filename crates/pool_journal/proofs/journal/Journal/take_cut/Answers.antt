@@ -1,4 +1,4 @@
-use Rattle.std.proofs.Common.{◌≡◌, ℕ, subst}
+use Rattle.std.proofs.Common.{ℕ, subst}
 use Rattle.pool_journal.specs.Waiting.{IsNewsAt}
 use Rattle.pool_journal.specs.declared.news.News.TheVariants as news
 use Rattle.pool_journal.proofs.journal.Journal.take_cut.Goals as goal

@@ -1,11 +1,11 @@
-use Rattle.std.proofs.Common.{◌≡◌, ◌++◌, cond, List, [], ◌∷◌, Some, ap, sym, ◌∙◌, subst}
+use Rattle.std.proofs.Common.{◌≡◌, ◌++◌, cond, List, [], ◌∷◌, ap, sym, ◌∙◌, subst}
 use Rattle.std.proofs.lemmas.Bool.{not-true}
 use Rattle.std.specs.Option.{is_some}
 use Rattle.boxcar.specs.Table.{Shelves}
 use Rattle.pool_journal.specs.declared.entry.Entry.{Entry}
 use Rattle.pool_journal.specs.declared.step.Step.{Step}
 use Rattle.pool_journal.specs.Kept.{EntersDc}
-use Rattle.pool_journal.specs.Slots.{Slot, Shown, through, steps, seen, last_of}
+use Rattle.pool_journal.specs.Slots.{Slot, Shown, through, steps, last_of}
 use Rattle.pool_journal.specs.Steps.{is_tc, GivesDc}
 use Rattle.pool_journal.specs.Views.{View}
 use Rattle.pool_journal.proofs.Along.{dc_entered}
@@ -27,17 +27,12 @@ invariant_of-self g c =
     let enters : EntersDc g.J.Naming.start s.dc.steps e c.requires.enters.0 =
     subst (λ (v : View). EntersDc g.J.Naming.start v.steps e c.requires.enters.0) (sym c.meet.ensures.same) c.requires.enters.1 in
     dc_enters J.start J.entries J.names s.tokens.items s.asked.items s.given.items c.push_if-2.new.list.items
-    c.push_if.new.list.items s.tc s.dc c.meet-2.new.self p e k
+    c.push_if.new.list.items s.tc s.dc c.meet.new.self p e k
     (subst (λ (r : Shelves). Shown r p) c.requires.row c.pushed-token.ensures.shown)
     (ap (λ (x : Entry). x.step.value) c.pushed-token.ensures.value) before c.requires.dc c.requires.enters.0 enters
     (c.push_if-2.ensures.items ∙ ap (λ (xs : List Slot). xs ++ p ∷ []) c.make_room.ensures.items)
     (c.push_if.ensures.items ∙ (λ i. c.make_room-2.ensures.items i ++ cond ((c.is_some-gives.ensures ∙ ap (λ (x : Step). is_some x.given) c.deref-2.ensures) i) (p ∷ []) []))
-    (c.meet-2.ensures.party
-    ∙ (λ i. record {
-      name = ap (λ (v : View). v.name) c.meet.ensures.party i;
-      steps = seen (Some
-          (c.again.ensures i));
-    }))
+    (c.meet.ensures.party ∙ ap (λ (x : Slot). record { name = s.dc.name; steps = through x.value }) c.again.ensures)
     enters.step.none
 
 pub returns-clause-gives : goal.returns-clause-gives
@@ -56,8 +51,8 @@ returns-clause-gives g c n enters =
     through_is J.start J.entries J.names s.tokens.items p e (ap (λ (x : Entry). x.step.value) c.pushed-token.ensures.value) before in
     let enters' : EntersDc g.J.Naming.start s.dc.steps e n =
     subst (λ (v : View). EntersDc g.J.Naming.start v.steps e n) (sym c.meet.ensures.same) enters in
-    let now : c.meet-2.new.visitor.steps ≡ steps s.tokens.items ++ e ∷ [] =
-    ap (λ (v : View). v.steps) (c.meet-2.ensures.visitor ∙ c.meet-2.ensures.party)
+    let now : c.meet.new.visitor.steps ≡ steps s.tokens.items ++ e ∷ [] =
+    ap (λ (v : View). v.steps) (c.meet.ensures.visitor ∙ c.meet.ensures.party)
     ∙ ap (λ (x : Slot). through x.value) c.again.ensures ∙ all in
     subst (λ (es : List Step). GivesDc g.J.Naming.start es n) (sym now)
     (dc_entered g.J.Naming.start s.dc.steps (steps s.tokens.items) e n (not-true (is_tc e) c.requires.dc) k.dc_sees enters')
