@@ -1,5 +1,5 @@
 -- A call in steps: the node settles, the event happens, the node settles again.
-use Rattle.std.proofs.Common.{◌≡◌, Bool, true, List, [], Option, None, Result, Ok, Err, refl, sym, ap, ◌∙◌, subst, inl, inr}
+use Rattle.std.proofs.Common.{◌≡◌, Bool, true, List, [], None, Result, Ok, Err, refl, ap, ◌∙◌, subst, inr}
 use Rattle.std.specs.Prelude.{IfOk, IfErr}
 use Rattle.record_key.specs.declared.refusal.Refusal.{Refusal}
 use Rattle.node_laws.specs.declared.event.Event.{Event}
@@ -8,7 +8,7 @@ use Rattle.node_laws.specs.declared.event.Out.TheVariants as out
 use Rattle.node_laws.specs.Node.{NodeView}
 use Rattle.node_laws.specs.Rounds.{Settles, IsDone}
 use Rattle.node_laws.specs.Stepping.{IsStep}
-use Rattle.jakumshe.specs.Calls.{Rests, Stops, IsStepped, IsTold, IsLeft, Refuses, Fails}
+use Rattle.jakumshe.specs.Calls.{Rests, Stops, IsStepped, IsTold, Fails}
 
 pub rests : (old new : NodeView) (before told : List Out) (r : Result Bool Refusal) (b : Bool)
     → Settles old None before told r new → before ≡ [] → r ≡ Ok b → b ≡ true → Rests old told new

@@ -5,7 +5,7 @@ use Rattle.record_key.specs.declared.op.Op.{Op}
 use Rattle.history.specs.declared.record.Record.{Record}
 use Rattle.history.specs.Log.{record_at, answer_of, request_in, Requests}
 use Rattle.history.specs.Legal.{FitsCheckpoint}
-use Rattle.log_laws.proofs.Records.{ARequest, older_at, within}
+use Rattle.log_laws.proofs.Records.{ARequest, older_at}
 use Rattle.log_laws.proofs.LegalLogs.{answered_push}
 use Rattle.logical_log.specs.Index.{is_answered, lacks_answer}
 

@@ -1,4 +1,4 @@
-use Rattle.std.proofs.Common.{◌≡◌, Bool, cond, Some, None, Result, Option, Ok, sym, ap, ◌∙◌}
+use Rattle.std.proofs.Common.{Bool, cond, Some, None, Result, Option, Ok, sym, ap, ◌∙◌}
 use Rattle.std.specs.Prelude.{◌==◌}
 use Rattle.std.specs.List.{list_any}
 use Rattle.jakumshe.specs.declared.fault.Fault.{Fault}

@@ -1,5 +1,4 @@
 use Rattle.std.proofs.Common.{sym, subst, inl, inr}
-use Rattle.history.specs.Values.{HasRightAnswers}
 use Rattle.stable.specs.Usage.{Usage}
 use Rattle.tc_core.specs.Opening.{IsMadeOf}
 use Rattle.node_store.specs.Opening.{IsFit}

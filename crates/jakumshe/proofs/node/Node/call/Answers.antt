@@ -1,4 +1,4 @@
-use Rattle.std.proofs.Common.{List, Vec, Global}
+use Rattle.std.proofs.Common.{Vec, Global}
 use Rattle.node_laws.specs.declared.event.Out.{Out}
 use Rattle.jakumshe.proofs.Ends.{told_if, left_if}
 use Rattle.jakumshe.proofs.node.Node.call.Goals as goal

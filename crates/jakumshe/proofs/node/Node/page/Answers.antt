@@ -1,4 +1,4 @@
-use Rattle.std.proofs.Common.{◌≡◌, List, arith, subst, ◌∙◌}
+use Rattle.std.proofs.Common.{List, arith, subst, ◌∙◌}
 use Rattle.record_key.specs.Rows.{Row}
 use Rattle.jakumshe.specs.Records.{IsGiven}
 use Rattle.std.proofs.lemmas.List.{length-set}

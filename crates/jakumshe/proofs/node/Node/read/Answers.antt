@@ -1,4 +1,4 @@
-use Rattle.std.proofs.Common.{◌≡◌, Ok, Err, refl, sym, ap, ◌∙◌, inl, inr, length, reverse, arith}
+use Rattle.std.proofs.Common.{Ok, Err, refl, sym, ap, ◌∙◌, inl, inr, length, reverse, arith}
 use Rattle.std.proofs.lemmas.List.{length-reverse}
 use Rattle.jakumshe.specs.Calls.{first_of, lists}
 use Rattle.jakumshe.specs.declared.fault.Fault.TheVariants.{Refused}

@@ -1,4 +1,4 @@
-use Rattle.std.proofs.Common.{◌≡◌, subst, rules, Some, Option}
+use Rattle.std.proofs.Common.{◌≡◌, subst, rules, Some}
 use Rattle.std.specs.Prelude.{Ok, Result}
 use Rattle.record_key.specs.Lent.{op_lent}
 use Rattle.record_key.specs.declared.refusal.Refusal.{Refusal}
