@@ -3,10 +3,10 @@ pub mod Fields
 pub mod Records
 pub mod Requests
 pub mod Items
-pub mod Rising
 pub mod ItemLoops
 pub mod Lists
 pub mod PackedRows
+pub mod RowsLeft
 pub mod Replies
 pub mod Images
 pub mod DcRecords
@@ -27,3 +27,6 @@ mod KeptRows
 mod LongHeads
 mod Starts
 pub mod UndoBytes
+pub mod Gaps
+pub mod RowEdits
+pub mod WordOrder

@@ -1,6 +1,5 @@
 -- Packed rows: what their bytes spell, read from the front, and more of them at the end.
-use Rattle.std.proofs.Common.{◌≡◌, ℕ, zero, suc, ◌+◌, ◌-◌, ◌<◌, ◌≤◌, Bool, true, false, cond, List, [], ◌∷◌, ◌++◌, length, take, Option, Some, None, refl, sym, ap, ◌∙◌, subst, arith, rules, inl, inr, ◌⊎◌}
-use Rattle.std.specs.Global.{Vec}
+use Rattle.std.proofs.Common.{◌≡◌, ℕ, zero, suc, ◌+◌, ◌-◌, ◌<◌, ◌≤◌, Bool, true, false, cond, List, [], ◌∷◌, ◌++◌, length, take, drop, Option, Some, None, refl, sym, ap, ◌∙◌, subst, arith, rules, inl, inr, ◌⊎◌}
 use Rattle.std.specs.Cmp.Lexicographic.{pointwise, same_text}
 use Rattle.std.specs.Cmp.Rules.{comparing}
 use Rattle.std.specs.Bool.{nat_eq}
@@ -10,18 +9,17 @@ use Rattle.std.proofs.Math.Seq.{take-append_seam}
 use Rattle.std.proofs.lemmas.Bool.{cases_Bool, and_parts}
 use Rattle.std.proofs.lemmas.Cmp.{nat_list_eq_equiv}
 use Rattle.std.proofs.lemmas.Grind.{flat_map-append}
-use Rattle.std.proofs.lemmas.List.{drop_at, length-append, append_assoc}
+use Rattle.std.proofs.lemmas.List.{drop_at, length-append, length-take-le, append_assoc, take-append-drop}
 use Rattle.std.proofs.lemmas.List.Concat.{flat_map-cons}
-use Rattle.std.proofs.lemmas.Option.{same_Some, cond_some}
+use Rattle.std.proofs.lemmas.Option.{cond_some}
 use Rattle.record_key.specs.Table.{Bytes}
 use Rattle.record_key.specs.Order.{is_below}
 use Rattle.record_key.specs.Rows.{Row, rises}
 use Rattle.record_key.proofs.Rows.{rises_next, falls_next}
-use Rattle.codec.specs.Fields.{number, text}
-use Rattle.codec.specs.Rows.{same_row, same_rows, row_bytes, rows_bytes, IsRow}
-use Rattle.codec.specs.PackedRows.{first_text, after_text, rows_spelled, ArePacked}
+use Rattle.codec.specs.Fields.{text}
+use Rattle.codec.specs.Rows.{same_row, same_rows, row_bytes, IsRow}
+use Rattle.codec.specs.PackedRows.{first_text, after_text, HasText, rows_spelled, ArePacked}
 use Rattle.codec.specs.Reading.{◌>>=◌, count_at, items_at, row_at, rows_at, rows_end, where_}
-use Rattle.codec.specs.Writing.{Puts}
 use Rattle.codec.proofs.Readers.{IsBytes, one_spelling}
 use Rattle.codec.proofs.Fields.{count_reads, row_reads}
 use Rattle.codec.proofs.Items.{items_take}
@@ -116,55 +114,94 @@ few_packed count bytes h = omega (
 
 -- ---- the row at the front
 
-not_some : {X : Type 0} (x : X) → None ≡ Some x → ⊥
-not_some x e = absurd cc
+has_again : (x : Bytes) (rest : List ℕ) → HasText (text x ++ rest)
+has_again x rest = (omega arith, omega (arith, length-append x rest))
 
-module _ (count n : ℕ) (bytes : List ℕ) (is : count ≡ suc n) (h : ArePacked (rows_spelled count bytes) bytes) where
-  abbrev rows : List Row
-  rows = rows_spelled n (after_text (after_text bytes))
+module _ (count : ℕ) (bytes : List ℕ) (some : count ≡ 0 → ⊥) (h : ArePacked (rows_spelled count bytes) bytes) where
+  abbrev left_bytes : List ℕ
+  left_bytes = after_text (after_text bytes)
+
+  abbrev left : List Row
+  left = rows_spelled (count - 1) left_bytes
 
   abbrev front : Row
   front = (first_text bytes, first_text (after_text bytes))
 
-  parts : rows_spelled count bytes ≡ front ∷ rows
+  pub front_spelled : rows_spelled count bytes ≡ front ∷ left
   unfolding rows_spelled
-  parts = ap (λ (k : ℕ). rows_spelled k bytes) is
+  front_spelled =
+      let is : count ≡ suc (count - 1) = omega (arith, some) in
+      ap (λ (n : ℕ). rows_spelled n bytes) is
 
-  h_front : ArePacked (front ∷ rows) bytes
-  h_front = subst (λ (these : List Row). ArePacked these bytes) parts h
+  h_front : ArePacked (front ∷ left) bytes
+  h_front = subst (λ (these : List Row). ArePacked these bytes) front_spelled h
 
-  is_read : row_at bytes ≡ Some (front, flat_map row_bytes rows)
-  is_read = ap row_at (h_front.spelled ∙ flat_map-cons row_bytes front rows)
-      ∙ row_reads.again front (flat_map row_bytes rows) h_front.each.0
+  key_first : bytes ≡ text front.0 ++ (text front.1 ++ flat_map row_bytes left)
+  key_first = h_front.spelled ∙ flat_map-cons row_bytes front left
+      ∙ append_assoc (text front.0) (text front.1) (flat_map row_bytes left)
 
-  pub reads : row_at bytes ≡ None → ⊥
-  reads none = not_some (front, flat_map row_bytes rows) (sym none ∙ is_read)
+  value_first : after_text bytes ≡ text front.1 ++ flat_map row_bytes left
+  value_first = ap after_text key_first ∙ after_again front.0 (text front.1 ++ flat_map row_bytes left)
 
-  abbrev first_part : Row × List ℕ
-  first_part = (front, flat_map row_bytes rows)
+  pub has_key : HasText bytes
+  has_key = subst HasText (sym key_first) (has_again front.0 (text front.1 ++ flat_map row_bytes left))
 
-  module _ (row : Row) (rest : List ℕ) (read : row_at bytes ≡ Some (row, rest)) where
-    abbrev part : Row × List ℕ
-    part = (row, rest)
+  pub has_value : HasText (after_text bytes)
+  has_value = subst HasText (sym value_first) (has_again front.1 (flat_map row_bytes left))
 
-    same : first_part ≡ part
-    same = same_Some first_part part (sym is_read ∙ read)
+  pub front_is_row : IsRow front
+  front_is_row = h_front.each.0
 
-    rest_is : rest ≡ flat_map row_bytes rows
-    rest_is = sym (ap (λ (p : Row × List ℕ). p.1) same)
+  pub rest_packed : ArePacked left left_bytes
+  rest_packed = record {
+    spelled = ap after_text value_first ∙ after_again front.1 (flat_map row_bytes left);
+    each = h_front.each.1;
+  }
 
-    row_is : front ≡ row
-    row_is = ap (λ (p : Row × List ℕ). p.0) same
+-- ---- the rows before a place
 
-    counted : n ≡ length rows
-    counted = sym (length-spelled n (after_text (after_text bytes)))
+all_before : (n : ℕ) (rows : List Row) → AllByRecursion IsRow rows → AllByRecursion IsRow (take n rows)
+all_before zero rows each = tt
+all_before (suc n) [] each = tt
+all_before (suc n) (row ∷ rows) each = (each.0, all_before n rows each.1)
 
-    pub next_spelled : rows_spelled count bytes ≡ row ∷ rows_spelled n rest
-    next_spelled = parts ∙ ap (λ (r : Row). r ∷ rows) row_is
-        ∙ ap (λ (more : List Row). row ∷ more) (sym (spells rows n rest rest_is counted))
+front_is : (front rest : List ℕ) → take (length (front ++ rest) - length rest) (front ++ rest) ≡ front
+front_is front rest =
+    let len : length (front ++ rest) - length rest ≡ length front = omega (arith, length-append front rest) in
+    ap (λ (n : ℕ). take n (front ++ rest)) len ∙ take-append_seam front rest
 
-    pub next_packed : ArePacked (rows_spelled n rest) rest
-    next_packed = packs rows n rest rest_is counted h_front.each.1
+module _ (count : ℕ) (bytes : List ℕ) (h : ArePacked (rows_spelled count bytes) bytes) (at left : ℕ) (rest : List ℕ)
+    (more : ArePacked (rows_spelled left rest) rest)
+    (is : rows_spelled left rest ≡ drop at (rows_spelled count bytes)) where
+  abbrev all : List Row
+  all = rows_spelled count bytes
+
+  abbrev front_bytes : List ℕ
+  front_bytes = flat_map row_bytes (take at all)
+
+  seam : bytes ≡ front_bytes ++ rest
+  seam = h.spelled ∙ ap (flat_map row_bytes) (sym (take-append-drop at all))
+      ∙ flat_map-append row_bytes (take at all) (drop at all)
+      ∙ ap (λ (b : List ℕ). front_bytes ++ b) (sym (more.spelled ∙ ap (flat_map row_bytes) is))
+
+  pub rest_within : length rest ≤ length bytes
+  rest_within = omega (arith, ap length seam, length-append front_bytes rest)
+
+  abbrev front_part : List ℕ
+  front_part = take (length bytes - length rest) bytes
+
+  front_part_is : front_part ≡ front_bytes
+  front_part_is = ap (λ (b : List ℕ). take (length b - length rest) b) seam ∙ front_is front_bytes rest
+
+  module _ (within : at ≤ length all) where
+    counted : at ≡ length (take at all)
+    counted = sym (length-take-le at all within)
+
+    pub before_spelled : rows_spelled at front_part ≡ take at all
+    before_spelled = spells (take at all) at front_part front_part_is counted
+
+    pub before_packed : ArePacked (rows_spelled at front_part) front_part
+    before_packed = packs (take at all) at front_part front_part_is counted (all_before at all h.each)
 
 -- ---- rows with rising keys
 
@@ -177,6 +214,9 @@ grows : (before : Bytes) (row : Row) (read : Option (List Row × List ℕ)) → 
 grows before row None below = refl
 grows before row (Some x) below =
     ap (λ (b : Bool). cond b (Some x.1) None) (sym (rises_next (before, []) row x.0 below))
+
+not_some : {X : Type 0} (x : X) → None ≡ Some x → ⊥
+not_some x e = absurd cc
 
 cond_none : {X : Type 0} (b : Bool) (x : X) → cond b (Some x) None ≡ None → b ≡ false
 cond_none true x e = absurd cc
@@ -309,29 +349,10 @@ module _ (count i : ℕ) (before : Bytes) (bytes : List ℕ) (total : Option (Li
 
 -- ---- behind their count
 
-pub behind_count : (count : ℕ) (bytes : List ℕ) → ArePacked (rows_spelled count bytes) bytes
-    → number count ++ bytes ≡ rows_bytes (rows_spelled count bytes)
-unfolding rows_bytes
-behind_count count bytes h =
-    ap (λ (n : ℕ). number n ++ bytes) (sym (length-spelled count bytes))
-    ∙ ap (λ (b : List ℕ). number (length (rows_spelled count bytes)) ++ b) h.spelled
-
-pub puts_both : (first mid last : Vec ℕ) (a b : List ℕ) → Puts first mid a → Puts mid last b → Puts first last (a ++ b)
-puts_both first mid last a b p q = record {
-  items = q.items ∙ ap (λ (front : List ℕ). front ++ b) p.items ∙ append_assoc first.items a b;
-  len = omega (arith, q.len, p.len, length-append a b);
-  capacity = omega (arith, q.capacity, p.capacity);
-}
-
 rows_at_is : (bytes : List ℕ) (count : ℕ) (rest : List ℕ) → count_at bytes ≡ Some (count, rest)
     → rows_at bytes ≡ where_ rises (items_at row_at count) rest
 unfolding rows_at
 rows_at_is bytes count rest counted = rw counted refl
-
-front_is : (front rest : List ℕ) → take (length (front ++ rest) - length rest) (front ++ rest) ≡ front
-front_is front rest =
-    let len : length (front ++ rest) - length rest ≡ length front = omega (arith, length-append front rest) in
-    ap (λ (n : ℕ). take n (front ++ rest)) len ∙ take-append_seam front rest
 
 module _ (bytes : List ℕ) (fits : IsBytes bytes) (count : ℕ) (rest : List ℕ)
     (counted : count_at bytes ≡ Some (count, rest)) where
@@ -396,16 +417,14 @@ both_ways true b to from = sym (to refl)
 both_ways false true to from = from refl
 both_ways false false to from = refl
 
-pub equal_as_bytes : (n : ℕ) (a : List ℕ) (m : ℕ) (b : List ℕ) → ArePacked (rows_spelled n a) a
-    → ArePacked (rows_spelled m b) b → pointwise nat_eq a b ≡ same_rows (rows_spelled n a) (rows_spelled m b)
-equal_as_bytes n a m b p q =
-    let x = rows_spelled n a in
-    let y = rows_spelled m b in
-    both_ways (pointwise nat_eq a b) (same_rows x y)
+pub equal_bytes : (a b : List Row) → AllByRecursion IsRow a → AllByRecursion IsRow b
+    → pointwise nat_eq (flat_map row_bytes a) (flat_map row_bytes b) ≡ same_rows a b
+equal_bytes a b p q =
+    both_ways (pointwise nat_eq (flat_map row_bytes a) (flat_map row_bytes b)) (same_rows a b)
     (λ e.
-    let rows : x ≡ y =
-    same_spelled x y p.each q.each (sym p.spelled ∙ same_text a b (sym e) ∙ q.spelled) in
-    subst (λ (z : List Row). same_rows x z ≡ true) rows (equal_rows.refl x))
+    let rows : a ≡ b = same_spelled a b p q (same_text (flat_map row_bytes a) (flat_map row_bytes b) (sym e)) in
+    subst (λ (z : List Row). same_rows a z ≡ true) rows (equal_rows.refl a))
     (λ e.
-    let bytes : a ≡ b = p.spelled ∙ ap (flat_map row_bytes) (told_same x y e) ∙ sym q.spelled in
-    subst (λ (z : List ℕ). pointwise nat_eq a z ≡ true) bytes (nat_list_eq_equiv.refl a))
+    let bytes : flat_map row_bytes a ≡ flat_map row_bytes b = ap (flat_map row_bytes) (told_same a b e) in
+    subst (λ (z : List ℕ). pointwise nat_eq (flat_map row_bytes a) z ≡ true) bytes
+    (nat_list_eq_equiv.refl (flat_map row_bytes a)))

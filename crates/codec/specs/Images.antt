@@ -18,7 +18,7 @@ image_in parts = record {
   low = parts.low;
   low_fence = option_copied parts.low_fence;
   high_fence = option_copied parts.high_fence;
-  rows = parts.rows.now;
+  rows = parts.rows;
   entries = parts.entries.now;
 }
 

@@ -40,7 +40,7 @@ pub enum DcRecord {
 }
 
 /// A record whose parts are borrowed, as it is written.
-#[derive(Debug, Clone, Copy)]
+#[derive(Debug, Drop)]
 pub enum DcRecordRef<'a> {
     Accept {
         session: u64,

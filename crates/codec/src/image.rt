@@ -12,12 +12,14 @@ ghost use Rattle.codec.specs.Reading.{Gives, Finds, IfRefused, image_numbers_at,
 use crate::entries::{entries_len, entries_rise, put_entries, take_entries};
 use crate::fault::Fault;
 use crate::frame::HEADER_LEN;
+use crate::key_order::is_below;
 use crate::lengths::optional_key_len;
+use crate::lent_rows::LentRows;
 use crate::reading::{take_number, take_optional_key};
-use crate::row_list::{RowList, key_is_below, put_row_list, row_list_len, take_row_list};
+use crate::rows::{Rows, put_rows, rows_len, take_rows};
 use crate::taken::Taken;
 use crate::writing::{put_number, put_optional_key};
-use record_key::{Entries, Key, Refusal, Value};
+use record_key::{Entries, Key, Refusal};
 use std::alloc::Global;
 
 /// A leaf, as its page keeps it.
@@ -33,20 +35,20 @@ pub struct LeafImage {
     /// The first key above them that doesn't. None: there is no bound above.
     pub high_fence: Option<Key>,
     /// The records, with rising keys.
-    pub rows: RowList,
+    pub rows: Rows,
     /// The operations above `low` that are done, with rising numbers.
     pub entries: Entries,
 }
 
 /// A leaf's image whose parts are borrowed, as it is written.
-#[derive(Debug, Clone, Copy)]
+#[derive(Debug, Drop)]
 pub struct LeafImageRef<'a> {
     pub id: u64,
     pub last: u64,
     pub low: u64,
     pub low_fence: Option<&'a Key>,
     pub high_fence: Option<&'a Key>,
-    pub rows: &'a [(Key, Value)],
+    pub rows: LentRows<'a>,
     pub entries: &'a Entries,
 }
 
@@ -63,7 +65,7 @@ impl LeafImage {
             low: self.low,
             low_fence: self.low_fence.as_ref(),
             high_fence: self.high_fence.as_ref(),
-            rows: self.rows.as_slice(),
+            rows: self.rows.lent(),
             entries: &self.entries,
         }
     }
@@ -96,7 +98,7 @@ pub fn leaf_image_len(image: &LeafImageRef<'_>) -> Option<usize>
     ensures none { IfNone result (2 ^ 64 ≤ length (image_bytes (image_in image.now))) }
 {
     let fences = optional_key_len(image.low_fence) + optional_key_len(image.high_fence);
-    let Some(rows) = row_list_len(image.rows) else {
+    let Some(rows) = rows_len(&image.rows) else {
         return None;
     };
     let Some(entries) = entries_len(image.entries) else {
@@ -131,25 +133,26 @@ pub fn leaf_image_spelling_law()
         → image_bytes a ++ x ≡ image_bytes b ++ y → (a ≡ b) × (x ≡ y) }
 {}
 
-fn key_is_between(low: &Option<Key>, high: &Option<Key>, key: &Key) -> bool
+fn is_between(low: &Option<Key>, high: &Option<Key>, key: &[u8]) -> bool
     ensures { result ≡ is_between low.now high.now key.now }
 {
     if let Some(low) = low
-        && key_is_below(key, low)
+        && is_below(key, low.as_bytes())
     {
         return false;
     }
     match high {
         None => true,
-        Some(high) => key_is_below(key, high),
+        Some(high) => is_below(key, high.as_bytes()),
     }
 }
 
-fn rows_lie(low: &Option<Key>, high: &Option<Key>, rows: &[(Key, Value)]) -> bool
+fn rows_lie(low: &Option<Key>, high: &Option<Key>, rows: &LentRows<'_>) -> bool
     ensures { result ≡ rows_lie low.now high.now rows.now }
 {
-    for row in rows {
-        if !key_is_between(low, high, &row.0) {
+    let mut rest = rows.again();
+    while let Some((key, _)) = rest.next_texts() {
+        if !is_between(low, high, key) {
             return false;
         }
     }
@@ -160,7 +163,7 @@ fn entries_stand(low: &Option<Key>, high: &Option<Key>, entries: &Entries) -> bo
     ensures { result ≡ entries_stand low.now high.now entries.now }
 {
     for at in 0..entries.len() {
-        if !key_is_between(low, high, &entries.entry(at).key) {
+        if !is_between(low, high, entries.entry(at).key.as_bytes()) {
             return false;
         }
     }
@@ -172,7 +175,7 @@ fn bounds_are_kept(image: &LeafImage) -> bool
     ensures { result ≡ keeps_bounds image.now }
 {
     let (low, high) = (&image.low_fence, &image.high_fence);
-    rows_lie(low, high, image.rows.as_slice())
+    rows_lie(low, high, &image.rows.lent())
         && entries_stand(low, high, &image.entries)
         && entries_rise(image.low, &image.entries)
 }
@@ -187,7 +190,7 @@ pub(crate) fn put_image(out: &mut Vec<u8>, image: &LeafImageRef<'_>)
     put_number(out, image.low);
     put_optional_key(out, image.low_fence);
     put_optional_key(out, image.high_fence);
-    put_row_list(out, image.rows);
+    put_rows(out, &image.rows);
     put_entries(out, image.entries);
 }
 
@@ -225,7 +228,7 @@ fn take_parts(alloc: Global, bytes: &[u8]) -> Result<(LeafImage, &[u8]), Fault>
     let Some(((low_fence, high_fence), rest)) = take_fences(rest) else {
         return Err(Fault::Outside);
     };
-    let (rows, rest) = take_row_list(alloc, rest)?;
+    let (rows, rest) = take_rows(alloc, rest)?;
     let (entries, rest) = take_entries(alloc, rest)?;
     let image = LeafImage {
         id: numbers.id,

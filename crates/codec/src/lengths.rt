@@ -117,14 +117,14 @@ pub(crate) fn answer_len(answer: &AnswerRef<'_>) -> usize
     }
 }
 
-pub(crate) fn optional_value_len(value: Option<&Value>) -> usize
+pub(crate) fn optional_value_len(value: Option<&ValueRef<'_>>) -> usize
     ensures len { result ≡ length (optional text (option_copied value.entry)) }
     ensures bounded { result ≤ 122 }
     ensures spelled { IfSome (option_copied value.entry) IsValue }
 {
     match value {
         None => 1,
-        Some(value) => 1 + value_len(&value.lent()),
+        Some(value) => 1 + value_len(value),
     }
 }
 

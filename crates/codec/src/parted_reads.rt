@@ -16,7 +16,7 @@ use crate::lengths::{key_len, optional_value_len};
 use crate::reading::{take_key, take_number, take_optional_value};
 use crate::taken::Taken;
 use crate::writing::{put_long_start, put_optional_value, put_text};
-use record_key::{Key, Refusal, Value};
+use record_key::{Key, Refusal, Value, ValueRef};
 
 /// A request to read a key, without the key.
 #[derive(Debug, Clone, Copy, PartialEq, Eq)]
@@ -107,7 +107,7 @@ pub fn put_found(
     out: &mut Vec<u8>,
     session: u64,
     read: u64,
-    value: Option<&Value>,
+    value: Option<&ValueRef<'_>>,
 ) -> Result<(), Refusal>
     requires numbers { IsNumber session × IsNumber read }
     ensures spelling { OnOk result (out.new.items ≡ out.old.items

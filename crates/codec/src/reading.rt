@@ -66,15 +66,6 @@ pub(crate) fn take_value(bytes: &[u8]) -> Option<(ValueRef<'_>, &[u8])>
     Some((ValueRef::new(text)?, rest))
 }
 
-/// A key, then a value.
-pub(crate) fn take_row(bytes: &[u8]) -> Option<((Key, Value), &[u8])>
-    ensures { Gives (λ x. (x.0, x.1.now)) result (row_at bytes.now) }
-{
-    let (key, rest) = take_key(bytes)?;
-    let (value, rest) = take_value(rest)?;
-    Some(((key, value.owned()), rest))
-}
-
 /// An operation: what it does to the record of its key, which is put in `key`.
 #[tactic(auto, unfolding(crate::specs::Reading::op_at))]
 pub(crate) fn take_change<'a>(

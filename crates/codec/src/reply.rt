@@ -14,12 +14,12 @@ use crate::frame::{HEADER_LEN, left_at, take_framed};
 use crate::framed::Framed;
 use crate::lengths::{optional_answer_len, optional_value_len};
 use crate::reading::{take_number, take_optional_answer, take_optional_value};
-use crate::rows::{Rows, take_rows};
+use crate::rows::{Rows, put_rows, rows_len, take_rows};
 use crate::taken::Taken;
 use crate::writing::{
     put_head, put_long_head, put_number, put_optional_answer, put_optional_value,
 };
-use record_key::{Answer, AnswerRef, Refusal, Value};
+use record_key::{Answer, AnswerRef, Refusal, Value, ValueRef};
 use std::alloc::{AllocError, Global};
 
 /// A reply to a request of the same session.
@@ -134,9 +134,9 @@ fn frame_len(reply: &Reply) -> Option<usize>
     match reply {
         Reply::Connected { .. } | Reply::RedoEnded { .. } => Some(17),
         Reply::Answered { answer, .. } => Some(25 + optional_answer_len(answer)),
-        Reply::Row { value, .. } => Some(25 + optional_value_len(value.as_ref())),
+        Reply::Row { value, .. } => Some(25 + optional_value_len(lent(value).as_ref())),
         Reply::Rows { rows, .. } => {
-            let Some(len) = rows.spelled_len() else {
+            let Some(len) = rows_len(&rows.lent()) else {
                 return None;
             };
             len.checked_add(25)
@@ -166,7 +166,7 @@ fn put_body(out: &mut Vec<u8>, reply: &Reply)
             value,
         } => {
             put_long_head(out, 0x13, *session, *read);
-            put_optional_value(out, value.as_ref());
+            put_optional_value(out, lent(value).as_ref());
         }
         Reply::Rows {
             session,
@@ -174,7 +174,7 @@ fn put_body(out: &mut Vec<u8>, reply: &Reply)
             rows,
         } => {
             put_long_head(out, ROWS, *session, *read);
-            rows.put(out);
+            put_rows(out, &rows.lent());
         }
         Reply::Checkpointed { session, low } => put_long_head(out, 0x15, *session, *low),
         Reply::RedoEnded { session } => put_head(out, 0x16, *session),
@@ -183,6 +183,16 @@ fn put_body(out: &mut Vec<u8>, reply: &Reply)
 
 /// The kind of a reply that has rows.
 pub(crate) const ROWS: u8 = 0x14;
+
+/// The value, lent, if there is one.
+fn lent(value: &Option<Value>) -> Option<ValueRef<'_>>
+    ensures { result ≡ value.now }
+{
+    match value {
+        Some(value) => Some(value.lent()),
+        None => None,
+    }
+}
 
 /// An answer of its own, if there is one.
 fn owned(answer: Option<&AnswerRef<'_>>) -> Option<Answer>

@@ -1,5 +1,5 @@
 //! Packed rows, as a reply has them.
-ghost use Rattle.std.specs.Prelude.{◌≡◌, ◌<◌, ◌≤◌, ◌^◌, ◌++◌, [], length, OnOk, OnErr, OnSome, IfOk, IfErr, IfSome, IfNone};
+ghost use Rattle.std.specs.Prelude.{◌≡◌, ◌<◌, ◌≤◌, ◌^◌, ◌∷◌, ◌++◌, [], length, OnOk, OnErr, OnSome, IfOk, IfErr, IfSome, IfNone};
 ghost use Rattle.std.specs.Cmp.Rules.{comparing};
 ghost use Rattle.std.proofs.Common.{rules};
 ghost use Rattle.std.specs.List.{AllByRecursion};
@@ -11,31 +11,28 @@ ghost use Rattle.record_key.specs.Order.{is_below};
 
 use crate::fault::Fault;
 use crate::frame::HEADER_LEN;
+use crate::key_order::is_below;
+use crate::lent_rows::LentRows;
 use crate::reading::{take_bytes, take_count};
-use crate::row_list::{each_len, put_each};
-use crate::row_reader::RowReader;
+use crate::row_buffer::RowBuffer;
 use crate::writing::{put_bytes, put_number};
-use record_key::{Key, Refusal, Value};
+use record_key::{Key, Refusal, Value, ValueRef};
 use std::alloc::{AllocError, Global};
 use std::marker::Model;
 
-/// Rows as their bytes, one row after another: a byte of length and the key, a byte of length and the value.
+/// Rows as their bytes, as `RowBuffer` has them.
 #[derive(Debug, Drop)]
 pub struct Rows {
-    bytes: Vec<u8>,
-    count: usize,
+    buffer: RowBuffer,
 }
 
 impl Model for Rows {
     ghost use Rattle.std.specs.Prelude.{List};
     ghost use Rattle.record_key.specs.Rows.{Row};
-    ghost use Rattle.codec.specs.PackedRows.{rows_spelled, ArePacked};
 
     ghost Value = { List Row };
 
-    ghost view = { λ r. rows_spelled r.count r.bytes.items };
-
-    ghost invariant = { λ r. ArePacked (rows_spelled r.count r.bytes.items) r.bytes.items };
+    ghost view = { λ r. r.buffer.rows };
 }
 
 impl Rows {
@@ -44,8 +41,7 @@ impl Rows {
         ensures { result ≡ [] }
     {
         Rows {
-            bytes: Vec::new(alloc),
-            count: 0,
+            buffer: RowBuffer::new(alloc),
         }
     }
 
@@ -53,29 +49,43 @@ impl Rows {
     pub fn len(&self) -> usize
         ensures { result ≡ length self.now }
     {
-        self.count
+        self.buffer.len()
     }
 
     /// Puts copies of the rows at the end. Refused NoMemory, and unchanged then.
-    pub fn add(&mut self, rows: &[(Key, Value)]) -> Result<(), Refusal>
-        ensures added { OnOk result (self.new ≡ self.old ++ rows.now) }
+    pub fn add(&mut self, more: &LentRows<'_>) -> Result<(), Refusal>
+        ensures added { OnOk result (self.new ≡ self.old ++ more.now) }
         ensures unchanged { OnErr result (self.new ≡ self.old) }
         ensures refused { IfErr result (λ refusal. refusal ≡ Refusal.NoMemory) }
     {
-        let Some(len) = each_len(rows) else {
-            return Err(Refusal::NoMemory);
-        };
-        self.bytes.reserve(len)?;
-        put_each(&mut self.bytes, rows);
-        self.count += rows.len();
+        self.buffer.add(more)
+    }
+
+    /// Puts a row at the end. Refused NoMemory, and unchanged then.
+    pub fn push(&mut self, key: &Key, value: &ValueRef<'_>) -> Result<(), Refusal>
+        ensures pushed { OnOk result (self.new ≡ self.old ++ (key.now, value.now) ∷ []) }
+        ensures unchanged { OnErr result (self.new ≡ self.old) }
+        ensures refused { IfErr result (λ refusal. refusal ≡ Refusal.NoMemory) }
+    {
+        let len = 2 + key.as_bytes().len() + value.as_bytes().len();
+        self.buffer.make_room(len)?;
+        self.buffer.insert(self.buffer.len(), key, value);
         Ok(())
     }
 
-    /// The rows, to be read one after another.
-    pub fn reader(&self) -> RowReader<'_>
+    /// The rows, lent: to be read one after another.
+    pub fn lent(&self) -> LentRows<'_>
         ensures { result ≡ self.now }
     {
-        RowReader::new(&self.bytes, self.count)
+        self.buffer.lent()
+    }
+
+    /// The rows, to be changed.
+    pub fn into_buffer(self) -> RowBuffer
+        ensures { result.rows ≡ self }
+    {
+        let Rows { buffer } = self;
+        buffer
     }
 
     /// The rows as a plain list. Refused where memory is.
@@ -83,44 +93,43 @@ impl Rows {
         ensures { IfOk result (λ rows. rows.items ≡ self.now) }
     {
         let mut rows = Vec::new(alloc);
-        let mut reader = self.reader();
-        while let Some(row) = reader.next() {
+        let mut rest = self.lent();
+        while let Some(row) = rest.next() {
             rows.push(row)?;
         }
         Ok(rows)
     }
 
     /// The same rows again. Refused where memory is.
+    #[tactic(auto, using(crate::proofs::PackedRows::packs, crate::proofs::PackedRows::spells))]
     pub fn copied(&self) -> Result<Rows, AllocError>
         ensures { IfOk result (λ rows. rows ≡ self.now) }
     {
-        Ok(Rows {
-            bytes: self.bytes.clone()?,
-            count: self.count,
-        })
+        let rows = self.lent();
+        copy_of(self.buffer.allocator(), rows.as_bytes(), rows.len())
     }
+}
 
-    /// How many bytes they take with their count. None where that is 2 to the power of 64 or more.
-    #[tactic(auto, unfolding(crate::specs::Rows::rows_bytes), using(crate::proofs::Numbered::number_lengths))]
-    pub(crate) fn spelled_len(&self) -> Option<usize>
-        ensures some { IfSome result (λ len. len ≡ length (rows_bytes self.now)) }
-        ensures few { length self.now < 2 ^ 64 }
-        ensures spelled { OnSome result (AllByRecursion IsRow self.now) }
-        ensures none { IfNone result (2 ^ 64 ≤ length (rows_bytes self.now)) }
-    {
-        let _count = self.len();
-        self.bytes.len().checked_add(HEADER_LEN)
-    }
+/// How many bytes rows take with their count. None where that is 2 to the power of 64 or more.
+#[tactic(auto, unfolding(crate::specs::Rows::rows_bytes), using(crate::proofs::Numbered::number_lengths))]
+pub(crate) fn rows_len(rows: &LentRows<'_>) -> Option<usize>
+    ensures some { IfSome result (λ len. len ≡ length (rows_bytes rows.now)) }
+    ensures few { length rows.now < 2 ^ 64 }
+    ensures spelled { OnSome result (AllByRecursion IsRow rows.now) }
+    ensures none { IfNone result (2 ^ 64 ≤ length (rows_bytes rows.now)) }
+{
+    let _count = rows.len();
+    rows.as_bytes().len().checked_add(HEADER_LEN)
+}
 
-    /// Appends their count, and each.
-    #[tactic(auto, unfolding(crate::specs::Rows::rows_bytes), using(crate::proofs::Numbered::number_lengths))]
-    pub(crate) fn put(&self, out: &mut Vec<u8>)
-        requires { HasRoom out.old (rows_bytes self.now) }
-        ensures { Puts out.old out.new (rows_bytes self.now) }
-    {
-        put_number(out, self.count as u64);
-        put_bytes(out, &self.bytes);
-    }
+/// Appends the rows' count, and each.
+#[tactic(auto, unfolding(crate::specs::Rows::rows_bytes), using(crate::proofs::Numbered::number_lengths))]
+pub(crate) fn put_rows(out: &mut Vec<u8>, rows: &LentRows<'_>)
+    requires { HasRoom out.old (rows_bytes rows.now) }
+    ensures { Puts out.old out.new (rows_bytes rows.now) }
+{
+    put_number(out, rows.len() as u64);
+    put_bytes(out, rows.as_bytes());
 }
 
 impl PartialEq for Rows {
@@ -128,8 +137,9 @@ impl PartialEq for Rows {
 
     ghost laws = { Prim.search (comparing, rules) };
 
+    #[tactic(auto, using(crate::proofs::PackedRows::equal_bytes))]
     fn eq(&self, other: &Rows) -> bool {
-        self.bytes.as_slice() == other.bytes.as_slice()
+        self.lent().as_bytes() == other.lent().as_bytes()
     }
 }
 
@@ -151,18 +161,12 @@ fn take_text(bytes: &[u8], low: usize, high: usize) -> Option<(&[u8], &[u8])>
 
 /// A key, then a value.
 #[tactic(auto, unfolding(crate::specs::Reading::key_at, crate::specs::Reading::value_at))]
-fn take_texts(bytes: &[u8]) -> Option<((&[u8], &[u8]), &[u8])>
+pub(crate) fn take_texts(bytes: &[u8]) -> Option<((&[u8], &[u8]), &[u8])>
     ensures { Gives (λ x. ((x.0.0.now, x.0.1.now), x.1.now)) result (row_at bytes.now) }
 {
     let (key, rest) = take_text(bytes, 1, Key::MAX_LEN)?;
     let (value, rest) = take_text(rest, 0, Value::MAX_LEN)?;
     Some(((key, value), rest))
-}
-
-fn is_below(low: &[u8], high: &[u8]) -> bool
-    ensures { result ≡ is_below low.now high.now }
-{
-    low.cmp(high).is_lt()
 }
 
 /// What follows so many rows with rising keys.
@@ -204,7 +208,7 @@ pub(crate) fn copy_of(alloc: Global, bytes: &[u8], count: usize) -> Result<Rows,
     requires { ArePacked (rows_spelled count bytes.now) bytes.now }
     ensures { IfOk result (λ rows. rows ≡ rows_spelled count bytes.now) }
 {
-    let mut copy = Vec::new(alloc);
-    copy.extend_from_slice(bytes)?;
-    Ok(Rows { bytes: copy, count })
+    Ok(Rows {
+        buffer: RowBuffer::copy_of(alloc, bytes, count)?,
+    })
 }

@@ -6,7 +6,7 @@ ghost use Rattle.std.specs.Option.{option_copied};
 ghost use Rattle.std.specs.Prelude.{◌∷◌, [], ◌<◌, ◌++◌, length};
 
 use byteorder::{BigEndian, ByteOrder};
-use record_key::{Answer, AnswerRef, Key, Op, Value};
+use record_key::{Answer, AnswerRef, Key, Op, Value, ValueRef};
 
 pub(crate) fn put_bytes(out: &mut Vec<u8>, bytes: &[u8])
     requires { HasRoom out.old bytes.now }
@@ -206,7 +206,7 @@ pub(crate) fn put_answer(out: &mut Vec<u8>, answer: &AnswerRef<'_>)
     }
 }
 
-pub(crate) fn put_optional_value(out: &mut Vec<u8>, value: Option<&Value>)
+pub(crate) fn put_optional_value(out: &mut Vec<u8>, value: Option<&ValueRef<'_>>)
     requires { HasRoom out.old (optional text (option_copied value)) }
     ensures { Puts out.old out.new (optional text (option_copied value.entry)) }
 {

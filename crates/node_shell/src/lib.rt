@@ -21,6 +21,7 @@ mod outcome;
 mod parsing;
 mod pieces;
 mod printed;
+mod row_list;
 mod rows;
 mod script;
 mod script_run;

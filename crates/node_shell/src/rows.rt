@@ -21,7 +21,7 @@ pub fn print_table<W: io::Write>(writer: &mut W, rows: &[(Key, Value)]) -> io::R
 pub fn print_packed<W: io::Write>(writer: &mut W, rows: &Rows) -> io::Result<()>
     ensures { Prints (W.contents writer.old) (W.contents writer.new) result (flat_map row_line rows.now) }
 {
-    let mut reader = rows.reader();
+    let mut reader = rows.lent();
     while let Some(row) = reader.next() {
         print_row(writer, &row.0, &row.1)?;
     }

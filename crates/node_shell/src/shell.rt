@@ -14,7 +14,7 @@ ghost use Rattle.node_shell.specs.Text.{ComesTo, Begins, Writes, Adds, Gets, Sca
 use crate::label::{Label, Labels};
 use crate::line::{Call, Kind, LeafCall, Line};
 use crate::line_result::LineResult;
-use codec::RowList;
+use crate::row_list::RowList;
 use record_key::{Key, Op, Refusal, Value};
 use stable::{CrashLog, CrashPages, MemLog, MemPages};
 use std::alloc::Global;

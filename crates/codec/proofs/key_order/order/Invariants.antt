@@ -1,0 +1,9 @@
+use Rattle.std.proofs.Common.{◌-◌}
+use Rattle.codec.proofs.WordOrder.{AreEqualTo}
+use Rattle.codec.proofs.key_order.order.Given as goal
+
+abbrev pub invariant-loop-at : goal.invariant-loop-at
+invariant-loop-at l = AreEqualTo l.at l.both l.a l.b
+
+abbrev pub decreases-loop-at : goal.decreases-loop-at
+decreases-loop-at l = l.both - l.at

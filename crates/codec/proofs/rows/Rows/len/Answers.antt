@@ -1,6 +1,0 @@
-use Rattle.std.proofs.Common.{◌∙◌, length, sym, ap}
-use Rattle.codec.proofs.PackedRows.{length-spelled}
-use Rattle.codec.proofs.rows.Rows.len.Goals as goal
-
-pub returns : goal.returns
-returns c = sym (length-spelled c.self.inside.count c.self.inside.bytes.items) ∙ ap length c.self.view_is
