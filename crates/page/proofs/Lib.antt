@@ -12,3 +12,4 @@ pub mod Starts
 pub mod Undoing
 pub mod UpTo
 pub mod TakingBack
+pub mod Sums

@@ -1,5 +1,5 @@
 -- What an operation does to sorted rows, where its key's place is known.
-use Rattle.std.specs.Prelude.{◌≡◌, ℕ, zero, suc, true, false, List, [], ◌∷◌, get_or, Option, Some, None, Result, Ok, Err, insert, remove, slice_set}
+use Rattle.std.specs.Prelude.{◌≡◌, ℕ, zero, suc, true, false, List, [], ◌∷◌, get_or, length, ◌+◌, Option, Some, None, Result, Ok, Err, insert, remove, slice_set}
 use Rattle.record_key.specs.declared.op.Op.{Op}
 use Rattle.record_key.specs.declared.op.Op.TheVariants.{Insert, Update, Upsert, Delete, Add}
 use Rattle.record_key.specs.Amounts.{summed}
@@ -29,3 +29,11 @@ rows_after (Delete k) (Ok at) rows = remove rows at
 rows_after (Delete k) (Err gap) rows = rows
 rows_after (Add k x) (Ok at) rows = rows_with_sum rows at k (summed (get_or rows at ([], [])).1 x)
 rows_after (Add k x) (Err gap) rows = rows
+
+-- the most bytes by which an operation lengthens the rows: those of a row with its value, whose sum has eight
+abbrev pub room_for : Op → ℕ
+room_for (Insert k v) = 2 + (length k + length v)
+room_for (Update k v) = 2 + (length k + length v)
+room_for (Upsert k v) = 2 + (length k + length v)
+room_for (Delete k) = 0
+room_for (Add k x) = 2 + (length k + 8)

@@ -8,9 +8,10 @@ ghost use Rattle.record_key.specs.Order.{rows_in};
 ghost use Rattle.ab_lsn.specs.AbLsn.{captures};
 ghost use Rattle.page.specs.Leaf.{first, IsLeaf};
 
-use crate::rows::{place_of, rows_below, rows_from};
+use crate::rows::{rows_below, rows_from, value_at};
 use ab_lsn::AbLsn;
-use record_key::{Entries, Key, Value};
+use codec::{LentRows, RowBuffer};
+use record_key::{Entries, Key, ValueRef};
 use std::alloc::Global;
 use std::marker::Model;
 
@@ -30,7 +31,7 @@ pub struct Leaf {
     pub(crate) last: u64,
     pub(crate) low_fence: Option<Key>,
     pub(crate) high_fence: Option<Key>,
-    pub(crate) rows: Vec<(Key, Value)>,
+    pub(crate) rows: RowBuffer,
     pub(crate) ab: AbLsn,
 }
 
@@ -50,12 +51,12 @@ impl Model for Leaf {
       last = l.last;
       low_fence = l.low_fence;
       high_fence = l.high_fence;
-      rows = table_of l.rows.items;
+      rows = table_of l.rows.rows;
       ab = l.ab;
     } };
 
-    ghost invariant = { λ l. AreInOrder l.rows.items
-        × (LieBetween l.low_fence l.high_fence l.rows.items × StandBetween l.low_fence l.high_fence l.ab.entries) };
+    ghost invariant = { λ l. AreInOrder l.rows.rows
+        × (LieBetween l.low_fence l.high_fence l.rows.rows × StandBetween l.low_fence l.high_fence l.ab.entries) };
 }
 
 impl Leaf {
@@ -69,7 +70,7 @@ impl Leaf {
             last: 0,
             low_fence: None,
             high_fence: None,
-            rows: Vec::new(alloc),
+            rows: RowBuffer::new(alloc),
             ab: AbLsn::new(alloc),
         }
     }
@@ -80,18 +81,18 @@ impl Leaf {
         id: u64,
         last: u64,
         fences: (Option<Key>, Option<Key>),
-        rows: Vec<(Key, Value)>,
+        rows: RowBuffer,
         ab: AbLsn,
     ) -> Leaf
-        requires in_order { AreInOrder rows.items }
-        requires rows_between { LieBetween fences.0 fences.1 rows.items }
+        requires in_order { AreInOrder rows.rows }
+        requires rows_between { LieBetween fences.0 fences.1 rows.rows }
         requires entries_between { StandBetween fences.0 fences.1 ab.entries }
         ensures { result ≡ record {
           id = id;
           last = last;
           low_fence = fences.0;
           high_fence = fences.1;
-          rows = table_of rows.items;
+          rows = table_of rows.rows;
           ab = ab;
         } }
     {
@@ -135,10 +136,10 @@ impl Leaf {
     }
 
     /// The records, in key order.
-    pub fn rows(&self) -> &[(Key, Value)]
-        ensures { result.now ≡ map.entries self.now.rows }
+    pub fn rows(&self) -> LentRows<'_>
+        ensures { result ≡ map.entries self.now.rows }
     {
-        self.rows.as_slice()
+        self.rows.lent()
     }
 
     /// The number up to which every request counts as performed.
@@ -163,23 +164,21 @@ impl Leaf {
     }
 
     /// The value at the key. Takes no memory.
-    pub fn get(&self, key: &Key) -> Option<&Value>
-        ensures { option_copied result ≡ map.get self.now.rows key.now }
+    pub fn get(&self, key: &Key) -> Option<ValueRef<'_>>
+        ensures { result ≡ map.get self.now.rows key.now }
     {
-        match place_of(self.rows.as_slice(), key) {
-            Ok(at) => Some(&self.rows[at].1),
-            Err(_) => None,
-        }
+        let rows = self.rows.lent();
+        value_at(&rows, key, rows.place_of(key))
     }
 
     /// The records from `low` on, below `high` where there is one. Takes no memory.
-    pub fn scan(&self, low: &Key, high: Option<&Key>) -> &[(Key, Value)]
-        ensures { result.now
+    pub fn scan(&self, low: &Key, high: Option<&Key>) -> LentRows<'_>
+        ensures { result
             ≡ rows_in (record { lo = low.now; hi = option_copied high.entry }) self.now.rows }
     {
-        let rows = rows_from(self.rows.as_slice(), low);
+        let rows = rows_from(&self.rows.lent(), low);
         match high {
-            Some(high) => rows_below(rows, high),
+            Some(high) => rows_below(&rows, high),
             None => rows,
         }
     }

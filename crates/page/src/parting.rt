@@ -4,7 +4,8 @@ ghost use Rattle.std.specs.Option.{option_copied};
 ghost use Rattle.page.specs.Parting.{upper_of, lower_of, joined_of, AreNeighbours};
 
 use crate::leaf::Leaf;
-use crate::rows::{add_rows, drop_rows_from, rows_from};
+use crate::rows::{drop_rows_from, rows_from};
+use codec::RowBuffer;
 use record_key::{Key, Refusal};
 
 impl Leaf {
@@ -14,8 +15,8 @@ impl Leaf {
         ensures upper { IfOk result (λ upper. upper ≡ upper_of self.now key.now id last) }
         ensures refused { IfErr result (λ refusal. refusal ≡ Refusal.NoMemory) }
     {
-        let mut rows = Vec::new(*self.rows.allocator());
-        add_rows(&mut rows, rows_from(self.rows.as_slice(), key))?;
+        let mut rows = RowBuffer::new(self.rows.allocator());
+        rows.add(&rows_from(&self.rows.lent(), key))?;
         let ab = self.ab.upper(key)?;
         Ok(Leaf {
             id,
@@ -57,9 +58,9 @@ impl Leaf {
         ensures joined { IfOk result (λ leaf. leaf ≡ joined_of self.now right.now last) }
         ensures refused { IfErr result (λ refusal. refusal ≡ Refusal.NoMemory) }
     {
-        let mut rows = Vec::new(*self.rows.allocator());
-        add_rows(&mut rows, self.rows.as_slice())?;
-        add_rows(&mut rows, right.rows.as_slice())?;
+        let mut rows = RowBuffer::new(self.rows.allocator());
+        rows.add(&self.rows.lent())?;
+        rows.add(&right.rows.lent())?;
         let mut ab = self.ab.copied()?;
         ab.join(&right.ab)?;
         Ok(Leaf {

@@ -8,7 +8,7 @@ ghost use Rattle.page.specs.Performs.{Performs};
 
 use crate::answer_sink::AnswerSink;
 use crate::leaf::{Done, Leaf};
-use crate::rows::{answer_at, place_of, value_at, write_at};
+use crate::rows::{answer_at, room_for, value_at, write_at};
 use record_key::{OpRef, Refusal};
 
 impl Leaf {
@@ -69,9 +69,10 @@ impl Leaf {
         ensures kept { OnErr result (sink.new ≡ sink.old) }
         ensures memory { IsOkUnless result Refusal.NoMemory }
     {
-        self.rows.reserve(1)?;
-        let place = place_of(self.rows.as_slice(), op.key());
-        let answer = answer_at(op, value_at(self.rows.as_slice(), op.key(), place));
+        self.rows.make_room(room_for(op))?;
+        let rows = self.rows.lent();
+        let place = rows.place_of(op.key());
+        let answer = answer_at(op, value_at(&rows, op.key(), place));
         self.ab.note(number, op.key(), &answer)?;
         sink.take(asker, number, Some(&answer));
         write_at(&mut self.rows, op, place);

@@ -5,9 +5,10 @@ ghost use Rattle.page.specs.TakingBack.{rows_back, taken_back, AreRowsOf};
 
 use crate::leaf::Leaf;
 use crate::parting::copied_fence;
-use crate::rows::{add_rows, place_of, write_at};
+use crate::rows::{room_for, write_at};
+use codec::RowBuffer;
 use inverse::inverse_on;
-use record_key::{Entries, Entry, Key, Refusal, Value};
+use record_key::{Entries, Entry, Refusal};
 
 impl Leaf {
     /// The leaf without what it did above an end: the entries there are taken back, latest first. Whoever has to change
@@ -16,8 +17,8 @@ impl Leaf {
         ensures taken { IfOk result (λ leaf. leaf ≡ taken_back self.now end) }
         ensures refused { IfErr result (λ refusal. refusal ≡ Refusal.NoMemory) }
     {
-        let mut rows = Vec::new(*self.rows.allocator());
-        add_rows(&mut rows, self.rows.as_slice())?;
+        let mut rows = RowBuffer::new(self.rows.allocator());
+        rows.add(&self.rows.lent())?;
         undo_above(&mut rows, self.ab.entries(), end)?;
         let mut ab = self.ab.copied()?;
         ab.pop_above(end);
@@ -44,10 +45,10 @@ impl Leaf {
 
 /// Undoes what the entries above an end did, latest first. Refused NoMemory: some of it may be undone then, so whoever
 /// is refused lets the rows go.
-fn undo_above(rows: &mut Vec<(Key, Value)>, entries: &Entries, end: u64) -> Result<(), Refusal>
-    requires { AreInOrder rows.old.items }
-    ensures undone { OnOk result (AreRowsOf (rows_back end entries.now (table_of rows.old.items)) entries.now
-        rows.old.items rows.new.items) }
+fn undo_above(rows: &mut RowBuffer, entries: &Entries, end: u64) -> Result<(), Refusal>
+    requires { AreInOrder rows.old.rows }
+    ensures undone { OnOk result (AreRowsOf (rows_back end entries.now (table_of rows.old.rows)) entries.now
+        rows.old.rows rows.new.rows) }
     ensures refused { IfErr result (λ refusal. refusal ≡ Refusal.NoMemory) }
 {
     let mut at = entries.len();
@@ -59,10 +60,10 @@ fn undo_above(rows: &mut Vec<(Key, Value)>, entries: &Entries, end: u64) -> Resu
 }
 
 /// Undoes what an entry above an end did. Refused NoMemory.
-fn undo(rows: &mut Vec<(Key, Value)>, entry: &Entry, end: u64) -> Result<(), Refusal>
-    requires { AreInOrder rows.old.items }
-    ensures undone { OnOk result (AreRowsOf (rows_back end (entry.now ∷ []) (table_of rows.old.items)) (entry.now ∷ [])
-        rows.old.items rows.new.items) }
+fn undo(rows: &mut RowBuffer, entry: &Entry, end: u64) -> Result<(), Refusal>
+    requires { AreInOrder rows.old.rows }
+    ensures undone { OnOk result (AreRowsOf (rows_back end (entry.now ∷ []) (table_of rows.old.rows)) (entry.now ∷ [])
+        rows.old.rows rows.new.rows) }
     ensures refused { IfErr result (λ refusal. refusal ≡ Refusal.NoMemory) }
 {
     if entry.number <= end {
@@ -71,8 +72,9 @@ fn undo(rows: &mut Vec<(Key, Value)>, entry: &Entry, end: u64) -> Result<(), Ref
     let Some(op) = inverse_on(&entry.key, &entry.answer) else {
         return Ok(());
     };
-    rows.reserve(1)?;
-    let place = place_of(rows.as_slice(), op.key());
-    write_at(rows, &op.lent(), place);
+    let op = op.lent();
+    rows.make_room(room_for(&op))?;
+    let place = rows.lent().place_of(op.key());
+    write_at(rows, &op, place);
     Ok(())
 }

@@ -4,6 +4,6 @@ use Rattle.page.proofs.rows.drop_rows_from.Goals as goal
 
 pub returns : goal.returns
 returns c =
-    c.truncate.ensures.items
-    ∙ (parts_of c.args.key.now c.args.rows.now.items c.start_of-start.result c.requires
-    (rw c.as_slice.ensures.value at c.start_of-start.ensures.start)).under
+    c.truncate.ensures
+    ∙ (parts_of c.args.key.now c.args.rows.now.rows c.start_of-start.result c.requires
+    (rw c.lent.ensures at c.start_of-start.ensures.start)).under

@@ -1,10 +1,11 @@
-use Rattle.std.proofs.Common.{sym}
+use Rattle.std.proofs.Common.{◌∙◌, ap, sym, Some, []}
 use Rattle.record_key.proofs.Rows.{found, absent}
 use Rattle.page.proofs.rows.value_at.Goals as goal
 
 pub returns-in-Ok : goal.returns-in-Ok
 returns-in-Ok c =
-    sym (found c.args.rows.now c.requires.ordered c.args.key.now c.in-Ok.at c.index-rows-at.result
+    ap Some c.value.ensures
+    ∙ sym (found c.args.rows.now c.requires.ordered c.args.key.now c.in-Ok.at ([], [])
     (rw c.in-Ok.is at c.requires.place))
 
 pub returns-in-Err : goal.returns-in-Err

@@ -7,8 +7,8 @@ use Rattle.page.proofs.taking_back.undo_above.Given as goal
 abbrev pub invariant-loop-at : goal.invariant-loop-at
 invariant-loop-at l = record {
   within : l.at ≤ length l.entries;
-  undone : AreRowsOf (rows_back l.end (drop l.at l.entries) (table_of l.fn.rows.items)) (drop l.at l.entries)
-      l.fn.rows.items l.rows.items;
+  undone : AreRowsOf (rows_back l.end (drop l.at l.entries) (table_of l.fn.rows.rows)) (drop l.at l.entries)
+      l.fn.rows.rows l.rows.rows;
 }
 
 abbrev pub decreases-loop-at : goal.decreases-loop-at

@@ -12,7 +12,7 @@ invariant_of-self c =
     let low = c.self.inside.low_fence in
     let high = c.self.inside.high_fence in
     let k = c.args.key.now in
-    let rows = c.self.inside.rows.items in
+    let rows = c.self.inside.rows.rows in
     rw (c.drop_rows_from.ensures, c.drop_from.ensures.lower, c.copied.ensures) (
       (retained rows (is_under k) c.self.invariant.0).0,
       (
@@ -33,5 +33,5 @@ returns c =
       c.drop_rows_from.ensures,
       c.drop_from.ensures.lower,
       c.copied.ensures,
-      (retained c.self.inside.rows.items (is_under c.args.key.now) c.self.invariant.0).1,
+      (retained c.self.inside.rows.rows (is_under c.args.key.now) c.self.invariant.0).1,
     ) refl

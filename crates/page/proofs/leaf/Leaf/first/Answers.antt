@@ -6,5 +6,5 @@ use Rattle.page.proofs.leaf.Leaf.first.Goals as goal
 
 pub returns : goal.returns
 returns c =
-    rw (c.new.ensures.items, c.new-2.ensures)
+    rw (c.new.ensures, c.new-2.ensures)
     (let f : Table → LeafView = λ rows. record first { rows = rows } in ap f table_of_none)

@@ -5,7 +5,7 @@ pub returns : goal.returns
 returns c =
     rw (← c.self.view_is)
     (record {
-      rows = rw (entries-table_of c.self.inside.rows.items c.self.invariant.0) c.self.invariant.1.0;
+      rows = rw (entries-table_of c.self.inside.rows.rows c.self.invariant.0) c.self.invariant.1.0;
       entries = c.self.invariant.1.1;
       rising = c.entries-entries.ensures.rising;
     })

@@ -17,16 +17,16 @@ use Rattle.page.proofs.leaf.Leaf.perform_new.Goals as goal
 pub invariant_of-self-2 : goal.invariant_of-self-2
 invariant_of-self-2 g c =
     let o = op_lent c.args.op.now in
-    let place : IsPlaceOf (key_of o) c.self.inside.rows.items c.place_of-place.result =
-    rw (c.as_slice.ensures.value, c.in_ok-reserve.ensures.items, c.key.ensures) at c.place_of-place.ensures.place in
+    let place : IsPlaceOf (key_of o) c.self.inside.rows.rows c.place_of-place.result =
+    rw (c.lent-rows.ensures, c.make_room.ensures.same, c.key.ensures) at c.place_of-place.ensures.place in
     let low = c.self.inside.low_fence in
     let high = c.self.inside.high_fence in
     let inside : IsTrue (is_between low high (key_of o)) =
     ap (λ (v : LeafView). is_in_fences v (key_of o)) c.self.view_is ∙ c.requires.within in
-    rw (c.write_at.ensures, c.in_ok-reserve.ensures.items, c.in_ok-note.ensures.noted, c.key-3.ensures) (
-      (writes c.self.inside.rows.items o c.place_of-place.result c.self.invariant.0 place).ordered,
+    rw (c.write_at.ensures, c.make_room.ensures.same, c.in_ok-note.ensures.noted, c.key-3.ensures) (
+      (writes c.self.inside.rows.rows o c.place_of-place.result c.self.invariant.0 place).ordered,
       (
-        all_written (λ (k : Bytes). IsTrue (is_between low high k)) c.self.inside.rows.items o c.place_of-place.result
+        all_written (λ (k : Bytes). IsTrue (is_between low high k)) c.self.inside.rows.rows o c.place_of-place.result
             c.self.invariant.1.0 inside,
         all_placed (λ (e : Entry). IsTrue (is_between low high e.key))
             (record { number = c.args.number; key = key_of o; answer = answer_lent c.answer_at-answer.result })
@@ -43,11 +43,11 @@ anew old n o a rows ab right table more =
 
 -- the answer is the one that the rows give
 right : (g : _) (c : goal.After-write_at g) → answer_lent c.answer_at-answer.result
-    ≡ answer_in (table_of c.self.inside.rows.items) (op_lent c.args.op.now)
+    ≡ answer_in (table_of c.self.inside.rows.rows) (op_lent c.args.op.now)
 right g c =
     c.answer_at-answer.ensures
     ∙ ap (answer_at (op_lent c.args.op.now))
-    (c.value_at.ensures ∙ rw (c.as_slice-2.ensures.value, c.in_ok-reserve.ensures.items, c.key-2.ensures) refl)
+    (c.value_at.ensures ∙ rw (c.lent-rows.ensures, c.make_room.ensures.same, c.key-2.ensures) refl)
 
 pub returns-clause-answer : goal.returns-clause-answer
 returns-clause-answer g c = rw (← c.self.view_is) (c.take.ensures.told ∙ ap Some (right g c))
@@ -56,13 +56,13 @@ pub returns-clause-performed : goal.returns-clause-performed
 returns-clause-performed g c =
     let o = op_lent c.args.op.now in
     let answer = answer_lent c.answer_at-answer.result in
-    let place : IsPlaceOf (key_of o) c.self.inside.rows.items c.place_of-place.result =
-    rw (c.as_slice.ensures.value, c.in_ok-reserve.ensures.items, c.key.ensures) at c.place_of-place.ensures.place in
-    let written : Writes c.self.inside.rows.items c.write_at.new.rows.items o =
-    rw (c.write_at.ensures, c.in_ok-reserve.ensures.items)
-    (writes c.self.inside.rows.items o c.place_of-place.result c.self.invariant.0 place) in
+    let place : IsPlaceOf (key_of o) c.self.inside.rows.rows c.place_of-place.result =
+    rw (c.lent-rows.ensures, c.make_room.ensures.same, c.key.ensures) at c.place_of-place.ensures.place in
+    let written : Writes c.self.inside.rows.rows c.write_at.new.rows.rows o =
+    rw (c.write_at.ensures, c.make_room.ensures.same)
+    (writes c.self.inside.rows.rows o c.place_of-place.result c.self.invariant.0 place) in
     let more : c.note.new.self ≡ noted c.self.inside.ab c.args.number (key_of o) answer =
     rw (c.key-3.ensures) at c.in_ok-note.ensures.noted in
     rw (← c.self.view_is)
-    (anew _ c.args.number o answer (table_of c.write_at.new.rows.items) c.note.new.self (right g c)
+    (anew _ c.args.number o answer (table_of c.write_at.new.rows.rows) c.note.new.self (right g c)
     written.table more)

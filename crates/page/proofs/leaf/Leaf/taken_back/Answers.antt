@@ -8,12 +8,12 @@ use Rattle.page.proofs.leaf.Leaf.taken_back.Goals as goal
 
 pub invariant_of-result : goal.invariant_of-result
 invariant_of-result c =
-    let rows = c.self.inside.rows.items in
+    let rows = c.self.inside.rows.rows in
     let entries = c.self.inside.ab.entries in
     let low = c.self.inside.low_fence in
     let high = c.self.inside.high_fence in
-    let back : AreRowsOf (rows_back c.args.end entries (table_of rows)) entries rows c.undo_above.new.rows.items =
-    rw (c.in_ok-add_rows.ensures.added, c.new-rows.ensures.items, c.as_slice.ensures.value, c.entries.ensures.entries)
+    let back : AreRowsOf (rows_back c.args.end entries (table_of rows)) entries rows c.undo_above.new.rows.rows =
+    rw (c.in_ok-add.ensures.added, c.new-rows.ensures, c.lent.ensures, c.entries.ensures.entries)
     at c.in_ok-undo_above.ensures.undone in
     rw (
       c.copied_fence.ensures,

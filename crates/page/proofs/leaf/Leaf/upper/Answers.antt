@@ -12,12 +12,12 @@ invariant_of-result c =
     let low = c.self.inside.low_fence in
     let high = c.self.inside.high_fence in
     let k = c.args.key.now in
-    let rows = c.self.inside.rows.items in
+    let rows = c.self.inside.rows.rows in
     rw (
-      c.in_ok-add_rows.ensures.added,
-      c.new-rows.ensures.items,
+      c.in_ok-add.ensures.added,
+      c.new-rows.ensures,
       c.rows_from.ensures.rows,
-      c.as_slice.ensures.value,
+      c.lent.ensures,
       c.in_ok-ab.ensures.upper,
       c.copied.ensures,
       c.copied_fence.ensures,
@@ -38,13 +38,13 @@ pub returns-clause-upper : goal.returns-clause-upper
 returns-clause-upper c =
     rw (
       ← c.self.view_is,
-      c.in_ok-add_rows.ensures.added,
-      c.new-rows.ensures.items,
+      c.in_ok-add.ensures.added,
+      c.new-rows.ensures,
       c.rows_from.ensures.rows,
-      c.as_slice.ensures.value,
+      c.lent.ensures,
       c.in_ok-ab.ensures.upper,
       c.copied.ensures,
       c.copied_fence.ensures,
       c.as_ref.ensures.value,
-      (retained c.self.inside.rows.items (is_from c.args.key.now) c.self.invariant.0).1,
+      (retained c.self.inside.rows.rows (is_from c.args.key.now) c.self.invariant.0).1,
     ) refl
