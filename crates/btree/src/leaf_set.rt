@@ -15,7 +15,7 @@ ghost use Rattle.btree.specs.Performs.{PerformsAt};
 
 use crate::parting::{Merge, Split};
 use page::{AnswerSink, Done, Leaf, RowSink};
-use record_key::{Key, OpRef, Refusal, Value};
+use record_key::{Key, OpRef, Refusal, ValueRef};
 use std::alloc::Global;
 
 /// Leaves in key order, which have all keys among them. A place counts them from 0.
@@ -75,8 +75,8 @@ pub trait LeafSet {
         ensures memory { IsOkUnless result Refusal.NoMemory };
 
     /// The value at the key. Takes no memory.
-    fn get(&self, key: &Key) -> Option<&Value>
-        ensures { option_copied result ≡ table.get (leaf_at (leaves self.now) key.now).rows key.now };
+    fn get(&self, key: &Key) -> Option<ValueRef<'_>>
+        ensures { result ≡ table.get (leaf_at (leaves self.now) key.now).rows key.now };
 
     /// Puts copies of the records from `low` on, below `high` where there is one, at the end of `found`. Refused NoMemory;
     /// some of them may stand there then.

@@ -7,7 +7,7 @@ use crate::leaf_set::LeafSet;
 use crate::parting::{Merge, Split};
 use crate::range_scan::scan_in;
 use page::{AnswerSink, Done, Leaf, RowSink};
-use record_key::{Key, OpRef, Refusal, Value};
+use record_key::{Key, OpRef, Refusal, ValueRef};
 use std::alloc::Global;
 use std::marker::Model;
 
@@ -80,7 +80,7 @@ impl LeafSet for LeafList {
         perform_in(&mut self.leaves, number, op, asker, sink)
     }
 
-    fn get(&self, key: &Key) -> Option<&Value> {
+    fn get(&self, key: &Key) -> Option<ValueRef<'_>> {
         self.leaves[place_in(self.leaves.as_slice(), key)].get(key)
     }
 

@@ -27,7 +27,8 @@ pub fn plan_split<L: LeafSet>(
         return Err(Refusal::NotNow);
     }
     let leaf = leaves.leaf(place);
-    let cut = leaf.rows()[leaf.rows().len() / 2].0.copied();
+    let rows = leaf.rows();
+    let cut = rows.key(rows.len() / 2);
     let right = Box::new(leaves.allocator(), leaf.upper(&cut, id, number)?)?;
     Ok(Split {
         left: leaf.id(),

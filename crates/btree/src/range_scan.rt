@@ -27,7 +27,7 @@ pub fn scan_in<S: RowSink>(
         if begins_past(leaf, high) {
             return Ok(());
         }
-        found.add(leaf.scan(low, high))?;
+        found.add(&leaf.scan(low, high))?;
     }
     Ok(())
 }

@@ -19,7 +19,7 @@ use building::{build, make_blocks};
 use growing::insert_in;
 use node::Node;
 use page::{AnswerSink, Done, Leaf, RowSink};
-use record_key::{Key, OpRef, Refusal, Value};
+use record_key::{Key, OpRef, Refusal, ValueRef};
 use shrinking::remove_in;
 use std::alloc::Global;
 use std::marker::Model;
@@ -93,7 +93,7 @@ impl LeafSet for Tree {
         self.root.perform(number, op, asker, sink)
     }
 
-    fn get(&self, key: &Key) -> Option<&Value> {
+    fn get(&self, key: &Key) -> Option<ValueRef<'_>> {
         self.root.leaf_of(key).get(key)
     }
 

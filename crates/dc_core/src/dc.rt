@@ -14,7 +14,6 @@ ghost use Rattle.record_key.specs.Lent.{op_lent};
 ghost use Rattle.codec.specs.Requests.{HasRequestNumbers};
 ghost use Rattle.page.specs.Leaf.{first};
 ghost use Rattle.btree.specs.Leaves.{all_rows};
-ghost use Rattle.std.specs.Option.{option_copied};
 ghost use Rattle.dc_core.specs.DcView.{fresh_dc, leaves, value_at};
 ghost use Rattle.dc_core.specs.Performing.{replied};
 ghost use Rattle.dc_core.specs.Serves.{serve_refusal, session_refusal, after_redo_refusal, MayAsk, ServeGives, with_system};
@@ -25,7 +24,7 @@ ghost use Rattle.dc_core.specs.Kept.{IsDc};
 use crate::parts::Parts;
 use codec::{Asking, Reply, Request};
 use page::{AnswerSink, Leaf};
-use record_key::{Key, OpRef, Refusal, Value};
+use record_key::{Key, OpRef, Refusal, Value, ValueRef};
 use stable::{CrashLog, CrashPages, LogDevice, MemLog, MemPages, PageDevice};
 use std::alloc::Global;
 use std::marker::Model;
@@ -183,8 +182,8 @@ impl<D: LogDevice, P: PageDevice> Dc<D, P> {
     }
 
     /// What a read of this key by this session finds, apart from the reply. Refused as `allows` says of a Get.
-    pub fn get(&self, session: u64, key: &Key) -> Result<Option<&Value>, Refusal>
-        ensures found { IfOk result (λ value. option_copied value ≡ value_at self.now key.now) }
+    pub fn get(&self, session: u64, key: &Key) -> Result<Option<ValueRef<'_>>, Refusal>
+        ensures found { IfOk result (λ value. value ≡ value_at self.now key.now) }
         ensures allowed { OnOk result (after_redo_refusal self.now session ≡ None) }
         ensures refused { IfErr result (λ refusal. after_redo_refusal self.now session ≡ Some refusal) }
     {

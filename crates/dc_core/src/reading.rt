@@ -9,9 +9,9 @@ ghost use Rattle.dc_core.specs.Seen.{seen};
 ghost use Rattle.dc_core.specs.Serves.{range, after_redo_refusal};
 
 use crate::parts::Parts;
-use codec::{Reply, Rows};
+use codec::{LentRows, Reply, Rows};
 use page::{RowSink, add_rows};
-use record_key::{Key, Refusal, Value};
+use record_key::{Key, Refusal, Value, ValueRef};
 use stable::{LogDevice, PageDevice};
 
 impl<D: LogDevice, P: PageDevice> Parts<D, P> {
@@ -19,7 +19,7 @@ impl<D: LogDevice, P: PageDevice> Parts<D, P> {
         ensures { result ≡ Reply.Row session read (map.get (leaf_at self.now.system.leaves key.now).rows key.now) }
     {
         let value = match self.system.get(key) {
-            Some(value) => Some(value.copied()),
+            Some(value) => Some(value.owned()),
             None => None,
         };
         Reply::Row {
@@ -30,8 +30,8 @@ impl<D: LogDevice, P: PageDevice> Parts<D, P> {
     }
 
     /// What a read of this session finds, where it is allowed.
-    pub fn found(&self, session: u64, key: &Key) -> Result<Option<&Value>, Refusal>
-        ensures found { IfOk result (λ value. option_copied value ≡ value_at (seen self.now) key.now) }
+    pub fn found(&self, session: u64, key: &Key) -> Result<Option<ValueRef<'_>>, Refusal>
+        ensures found { IfOk result (λ value. value ≡ value_at (seen self.now) key.now) }
         ensures allowed { OnOk result (after_redo_refusal (seen self.now) session ≡ None) }
         ensures refused { IfErr result (λ refusal. after_redo_refusal (seen self.now) session ≡ Some refusal) }
     {
@@ -70,7 +70,7 @@ impl<D: LogDevice, P: PageDevice> Parts<D, P> {
     {
         let mut rows = Vec::new(self.system.allocator());
         for place in 0..self.system.len() {
-            add_rows(&mut rows, self.system.leaf(place).rows())?;
+            add_rows(&mut rows, &self.system.leaf(place).rows())?;
         }
         Ok(rows)
     }
@@ -85,7 +85,7 @@ struct ReplyRows {
 impl RowSink for ReplyRows {
     ghost rows = { λ found. found.rows };
 
-    fn add(&mut self, more: &[(Key, Value)]) -> Result<(), Refusal> {
+    fn add(&mut self, more: &LentRows<'_>) -> Result<(), Refusal> {
         self.rows.add(more)
     }
 }

@@ -21,7 +21,7 @@ use codec::{Asking, Reply, Request};
 use dc_core::Dc;
 use node_laws::{Event, Out};
 use page::AnswerSink;
-use record_key::{Key, OpRef, Refusal, Value};
+use record_key::{Key, OpRef, Refusal, Value, ValueRef};
 use stable::{CrashLog, CrashPages, MemLog, MemPages};
 use std::alloc::Global;
 use std::marker::Model;
@@ -234,8 +234,8 @@ impl<D: CrashLog, P: CrashPages> DcSide<D, P> {
     }
 
     /// What a read of this key by this session finds. Refused NotConnected where the component is down, else as it says.
-    pub fn get(&self, session: u64, key: &Key) -> Result<Option<&Value>, Refusal>
-        ensures found { IfOk result (λ value. option_copied value ≡ value_at self.now.dc key.now) }
+    pub fn get(&self, session: u64, key: &Key) -> Result<Option<ValueRef<'_>>, Refusal>
+        ensures found { IfOk result (λ value. value ≡ value_at self.now.dc key.now) }
         ensures up { OnOk result (self.now.up ≡ true) }
         ensures allowed { OnOk result (after_redo_refusal self.now.dc session ≡ None) }
         ensures refused { IfErr result (λ refusal. MatchBool self.now.up

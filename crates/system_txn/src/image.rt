@@ -31,7 +31,7 @@ pub fn leaf_of(image: LeafImage) -> Leaf
         image.id,
         image.last,
         (image.low_fence, image.high_fence),
-        image.rows.into_rows(),
+        image.rows.into_buffer(),
         AbLsn::from_parts(image.low, image.entries),
     )
 }

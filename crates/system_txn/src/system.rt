@@ -23,7 +23,7 @@ use crate::parts::Parts;
 use crate::tended::{Neighbours, Tended};
 use btree::LeafSet;
 use page::{AnswerSink, Done, Leaf, RowSink};
-use record_key::{Key, OpRef, Refusal, Value};
+use record_key::{Key, OpRef, Refusal, ValueRef};
 use stable::{CrashLog, CrashPages, LogDevice, PageDevice};
 use std::alloc::Global;
 use std::marker::Model;
@@ -185,8 +185,8 @@ impl<L: LeafSet, D: LogDevice, P: PageDevice> SystemTxns<L, D, P> {
     }
 
     /// The value at the key. Takes no memory.
-    pub fn get(&self, key: &Key) -> Option<&Value>
-        ensures { option_copied result ≡ map.get (leaf_at self.now.leaves key.now).rows key.now }
+    pub fn get(&self, key: &Key) -> Option<ValueRef<'_>>
+        ensures { result ≡ map.get (leaf_at self.now.leaves key.now).rows key.now }
     {
         self.parts.leaves.get(key)
     }

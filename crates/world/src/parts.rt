@@ -16,7 +16,7 @@ use codec::{
     Asking, Reading, Reply, Request, put_answered, put_found, put_get, put_perform, put_reply,
     put_request,
 };
-use record_key::{AnswerRef, Key, Refusal, Value};
+use record_key::{AnswerRef, Key, Refusal, ValueRef};
 
 /// A message, whole or in parts.
 pub(crate) trait Parts<M: Message> {
@@ -116,15 +116,15 @@ impl<'a> Parts<Reply> for AnsweredParts<'a> {
 #[derive(Drop)]
 pub(crate) struct RowParts<'a> {
     pub(crate) reading: Reading,
-    pub(crate) value: Option<&'a Value>,
+    pub(crate) value: Option<ValueRef<'a>>,
 }
 
 impl<'a> Parts<Reply> for RowParts<'a> {
-    ghost message = { λ parts. says.Row parts.reading.session parts.reading.read (option_copied parts.value) };
+    ghost message = { λ parts. says.Row parts.reading.session parts.reading.read parts.value };
 
     ghost may_put = { λ parts. IsNumber parts.reading.session × IsNumber parts.reading.read };
 
     fn put(&self, out: &mut Vec<u8>) -> Result<(), Refusal> {
-        put_found(out, self.reading.session, self.reading.read, self.value)
+        put_found(out, self.reading.session, self.reading.read, self.value.as_ref())
     }
 }

@@ -27,7 +27,7 @@ impl Node {
     {
         match &self.below {
             Below::Leaf(leaf) => {
-                found.add(leaf.scan(low, high))?;
+                found.add(&leaf.scan(low, high))?;
                 Ok(!ends_within(leaf, high))
             }
             Below::Inner(children) => {
@@ -94,10 +94,10 @@ fn scan_leaf<S: RowSink>(
     ensures memory { IsOkUnless result Refusal.NoMemory }
 {
     if ends_within(leaf, high) {
-        found.add(leaf.rows())?;
+        found.add(&leaf.rows())?;
         return Ok(false);
     }
-    found.add(leaf.scan(low, high))?;
+    found.add(&leaf.scan(low, high))?;
     Ok(true)
 }
 

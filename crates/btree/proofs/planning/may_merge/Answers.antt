@@ -10,6 +10,14 @@ returns-then-place-len-clause-may g c =
 pub returns-clause-may : goal.returns-clause-may
 returns-clause-may g c =
     c.may_join.ensures
-    ∙ rw (c.rows-left.ensures, c.rows-right.ensures, c.leaf.ensures, c.leaf-2.ensures, add-one)
+    ∙ rw (
+      c.len-left.ensures,
+      c.len-right.ensures,
+      c.rows.ensures,
+      c.rows-2.ensures,
+      c.leaf.ensures,
+      c.leaf-2.ensures,
+      add-one,
+    )
     (sym (merge_here (g.L.LeafSet.leaves c.args.leaves.now) c.args.place
     (omega (arith, c.if-place-len.false, c.len.ensures.count, c.len.ensures.some))))

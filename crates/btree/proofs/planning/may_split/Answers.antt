@@ -5,7 +5,7 @@ use Rattle.btree.proofs.planning.may_split.Goals as goal
 
 pub returns-then-place-len : goal.returns-then-place-len
 returns-then-place-len g c =
-    rw (c.rows.ensures, c.leaf.ensures)
+    rw (c.len-then-place-len.ensures, c.rows.ensures, c.leaf.ensures)
     (sym (split_here (g.L.LeafSet.leaves c.args.leaves.now) c.args.place
     (omega (arith, c.if-place-len.true, c.len.ensures.count))))
 

@@ -13,13 +13,13 @@ leaf-leaf-requires g c =
     split_within (g.L.LeafSet.leaves c.args.leaves.now) c.args.place
     (sym c.may_split.ensures ∙ c.if-not-may_split.false)
 
-pub bounds-rows-rows : goal.bounds-rows-rows
-bounds-rows-rows g c =
+pub key-cut-requires : goal.key-cut-requires
+key-cut-requires g c =
     let leaves = g.L.LeafSet.leaves c.args.leaves.now in
     let may = sym c.may_split.ensures ∙ c.if-not-may_split.false in
     let two = leb-true 2 (count (get_or leaves c.args.place first))
     (sym (split_here leaves c.args.place (split_within leaves c.args.place may)) ∙ may) in
-    rw (c.rows.ensures, c.rows-2.ensures, c.leaf-leaf.ensures) (omega (arith, two))
+    rw (c.len.ensures, c.rows-rows.ensures, c.leaf-leaf.ensures) (omega (arith, two))
 
 -- the key of a row that is there
 key_there : (rows : List Row) (p : ℕ) (d : Row) → p < length rows → (get_or rows p d).0 ≡ key_in (slice_get rows p)
@@ -34,10 +34,10 @@ returns-clause-half g c =
     let may = sym c.may_split.ensures ∙ c.if-not-may_split.false in
     let two = leb-true 2 (count leaf)
     (sym (split_here leaves c.args.place (split_within leaves c.args.place may)) ∙ may) in
-    let cut : c.copied-cut.result ≡ middle leaf =
-    c.copied-cut.ensures
-    ∙ rw (c.rows.ensures, c.rows-2.ensures, c.leaf-leaf.ensures)
-    (key_there (map.entries leaf.rows) (count leaf / 2) c.index-rows-rows.result (omega (arith, two))) in
+    let cut : c.key-cut.result ≡ middle leaf =
+    c.key-cut.ensures
+    ∙ rw (c.len.ensures, c.rows-rows.ensures, c.leaf-leaf.ensures)
+    (key_there (map.entries leaf.rows) (count leaf / 2) ([], []) (omega (arith, two))) in
     record {
       left = c.id.ensures ∙ ap (λ (l : LeafView). l.id) c.leaf-leaf.ensures;
       cut = cut;

@@ -38,8 +38,8 @@ loop-leaf-preserved g c =
     let so_far = found_in s (leaves_in (take c.loop-leaf.leaf-index ys)) in
     rw add-one
     (c.in_ok-add.ensures.added
-    ∙ ap (λ (rows : List Row). rows ++ c.scan.result.now) c.loop-leaf.invariant
-    ∙ append_assoc old so_far c.scan.result.now
+    ∙ ap (λ (rows : List Row). rows ++ c.scan.result) c.loop-leaf.invariant
+    ∙ append_assoc old so_far c.scan.result
     ∙ ap (λ (rows : List Row). old ++ rows)
     (ap (λ (rows : List Row). so_far ++ rows)
     (c.scan.ensures ∙ ap (λ (leaf : LeafView). rows_in s leaf.rows) c.deref-in-loop-leaf.ensures)

@@ -11,7 +11,7 @@ loop-place-preserved g c =
     let leaves = c.args.self.now.system.leaves in
     let within : c.loop-place.place < length leaves =
     omega (arith, c.loop-place-test.true, c.len-place-end.ensures.count) in
-    c.in_ok-add_rows.ensures.added ∙ ap (λ rows. rows ++ c.rows.result.now) c.loop-place.invariant
+    c.in_ok-add_rows.ensures.added ∙ ap (λ rows. rows ++ c.rows.result) c.loop-place.invariant
     ∙ ap (λ rows. all_rows (take c.loop-place.place leaves) ++ rows)
     (c.rows.ensures ∙ ap (λ (leaf : LeafView). entries leaf.rows) c.leaf.ensures)
     ∙ sym (rows_more leaves c.loop-place.place within)
