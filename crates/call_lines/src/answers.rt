@@ -1,10 +1,19 @@
 //! How keys, values, operations, answers and refusals are spelled.
 use crate::text::Text;
-use record_key::{Answer, Key, Op, Refusal, Value};
+use codec::LentRows;
+use record_key::{Answer, Key, Op, Refusal, Value, ValueRef};
 
 impl Text {
     /// A value, or none: `-`.
     pub fn put_found(&mut self, value: Option<&Value>) {
+        match value {
+            Some(value) => self.put_bytes(value.as_bytes()),
+            None => self.put("-"),
+        }
+    }
+
+    /// A value that is lent, or none: `-`.
+    pub fn put_lent(&mut self, value: Option<ValueRef<'_>>) {
         match value {
             Some(value) => self.put_bytes(value.as_bytes()),
             None => self.put("-"),
@@ -60,14 +69,28 @@ impl Text {
 
     /// `a=1`.
     pub fn put_row(&mut self, key: &Key, value: &Value) {
-        self.put_bytes(key.as_bytes());
+        self.put_texts(key.as_bytes(), value.as_bytes());
+    }
+
+    fn put_texts(&mut self, key: &[u8], value: &[u8]) {
+        self.put_bytes(key);
         self.push("=");
-        self.push_bytes(value.as_bytes());
+        self.push_bytes(value);
     }
 
     pub fn put_rows(&mut self, rows: &[(Key, Value)]) {
         for row in rows {
             self.put_row(&row.0, &row.1);
+        }
+    }
+
+    /// Rows that are lent, as `put_rows` puts them.
+    pub fn put_lent_rows(&mut self, rows: &LentRows<'_>) {
+        let mut rest = rows.again();
+        for _ in 0..rows.len() {
+            if let Some((key, value)) = rest.next_texts() {
+                self.put_texts(key, value);
+            }
         }
     }
 

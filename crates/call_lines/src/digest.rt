@@ -1,5 +1,6 @@
 //! A number for what can be seen of something.
-use record_key::{Entries, Key, Value};
+use codec::LentRows;
+use record_key::Entries;
 
 /// The hash of Fowler, Noll and Vo, 64 bits, over what is added.
 #[derive(Drop)]
@@ -35,10 +36,13 @@ impl Digest {
         self.add_number(bytes.len() as u64);
     }
 
-    pub fn add_rows(&mut self, rows: &[(Key, Value)]) {
-        for row in rows {
-            self.add_bytes(row.0.as_bytes());
-            self.add_bytes(row.1.as_bytes());
+    pub fn add_rows(&mut self, rows: &LentRows<'_>) {
+        let mut rest = rows.again();
+        for _ in 0..rows.len() {
+            if let Some((key, value)) = rest.next_texts() {
+                self.add_bytes(key);
+                self.add_bytes(value);
+            }
         }
     }
 

@@ -4,7 +4,7 @@ use crate::open::Doing;
 use crate::span::Span;
 use codec::Rows;
 use node_laws::Out;
-use record_key::{Answer, Key, Value};
+use record_key::{Answer, Key, Refusal, Value};
 use std::alloc::{AllocError, Global};
 use std::mem;
 use tc_core::Committed;
@@ -89,9 +89,9 @@ impl Model {
         let Some(Span::Range { .. }) = self.reads(txn) else {
             return Ok(Out::Nothing);
         };
-        let mut rows = Rows::new(alloc);
-        match rows.add(&self.told_rows(alloc, txn)?) {
-            Ok(()) => Ok(Out::Rows { txn, rows }),
+        let told = self.told_rows(alloc, txn)?;
+        match packed(alloc, &told) {
+            Ok(rows) => Ok(Out::Rows { txn, rows }),
             Err(_) => Err(AllocError),
         }
     }
@@ -154,4 +154,12 @@ impl Model {
             None => false,
         }
     }
+}
+
+fn packed(alloc: Global, rows: &[(Key, Value)]) -> Result<Rows, Refusal> {
+    let mut packed = Rows::new(alloc);
+    for (key, value) in rows {
+        packed.push(key, &value.lent())?;
+    }
+    Ok(packed)
 }

@@ -132,7 +132,7 @@ pub fn put_leaf(answer: &mut Text, leaf: &Leaf) {
     answer.put("low");
     answer.put_number(leaf.low());
     answer.put("rows");
-    answer.put_rows(leaf.rows());
+    answer.put_lent_rows(&leaf.rows());
     answer.put("set");
     for place in 0..leaf.entries().len() {
         answer.put_number(leaf.entries().entry(place).number);
@@ -152,6 +152,6 @@ pub fn add_leaf(digest: &mut Digest, leaf: &Leaf) {
     digest.add_number(leaf.id());
     digest.add_number(leaf.last());
     digest.add_number(leaf.low());
-    digest.add_rows(leaf.rows());
+    digest.add_rows(&leaf.rows());
     digest.add_entries(leaf.entries());
 }

@@ -60,7 +60,7 @@ pub fn put_reply(text: &mut Text, reply: &Reply) {
         }
         Reply::Rows { rows, .. } => {
             text.put("rows");
-            let mut reader = rows.reader();
+            let mut reader = rows.lent();
             for _ in 0..rows.len() {
                 if let Some((key, value)) = reader.next() {
                     text.put_row(&key, &value);

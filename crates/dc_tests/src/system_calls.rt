@@ -61,7 +61,7 @@ fn read(system: &System, name: &str, words: &mut Words, answer: &mut Text) -> Re
         "records" => answer.put_number(system.records()),
         "stable" => answer.put_number(system.stable_end()),
         "place" => answer.put_number(system.place_of(&words.key()?) as u64),
-        "get" => answer.put_found(system.get(&words.key()?)),
+        "get" => answer.put_lent(system.get(&words.key()?)),
         "leaf" => put_leaf(answer, leaf_at(system, words.number()? as usize)?),
         "scan" => {
             let low = words.key()?;

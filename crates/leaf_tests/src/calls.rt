@@ -14,8 +14,11 @@ pub fn perform<L: LeafSet>(leaves: &mut L, number: u64, op: &Op) -> Result<Outco
     Ok((done, answer))
 }
 
-pub fn get<'a, L: LeafSet>(leaves: &'a L, key: &Key) -> Option<&'a Value> {
-    leaves.get(key)
+pub fn get<L: LeafSet>(leaves: &L, key: &Key) -> Option<Value> {
+    match leaves.get(key) {
+        Some(value) => Some(value.owned()),
+        None => None,
+    }
 }
 
 /// Copies of the records from `low` on, below `high` where there is one.

@@ -60,7 +60,7 @@ fn read<L: LeafSet>(
     answer: &mut Text,
 ) -> Result<(), Refusal> {
     match name {
-        "get" => answer.put_found(calls::get(leaves, &words.key()?)),
+        "get" => answer.put_found(calls::get(leaves, &words.key()?).as_ref()),
         "scan" => {
             let low = words.key()?;
             let high = words.end()?;

@@ -82,7 +82,7 @@ fn performed<L: LeafSet>(
         Ok(expected) => expected,
         Err(_) => plain.perform(number, &op)?,
     };
-    Ok(done == expected && calls::get(leaves, op.key()) == plain.get(op.key()))
+    Ok(done == expected && calls::get(leaves, op.key()).as_ref() == plain.get(op.key()))
 }
 
 /// A refused call is made again, as is each below, and has left the leaves as they were.

@@ -1,6 +1,7 @@
 //! Whether leaves are the same.
 use crate::plain_leaves::PlainLeaves;
 use btree::{LeafList, LeafSet, Tree};
+use codec::LentRows;
 use page::Leaf;
 use record_key::{Entries, Key, Value};
 
@@ -17,13 +18,41 @@ fn are_same_entries(one: &Entries, other: &Entries) -> bool {
     true
 }
 
+/// Whether both are the same rows.
+fn are_same_rows(one: &LentRows<'_>, other: &LentRows<'_>) -> bool {
+    let (mut one, mut other) = (one.again(), other.again());
+    if one.len() != other.len() {
+        return false;
+    }
+    for _ in 0..one.len() {
+        if one.next() != other.next() {
+            return false;
+        }
+    }
+    true
+}
+
+/// Whether these rows are those that are listed.
+fn are_listed(rows: &LentRows<'_>, listed: &[(Key, Value)]) -> bool {
+    let mut rest = rows.again();
+    for (key, value) in listed {
+        let Some(row) = rest.next() else {
+            return false;
+        };
+        if row.0 != *key || row.1 != *value {
+            return false;
+        }
+    }
+    rest.len() == 0
+}
+
 fn are_same(one: &Leaf, other: &Leaf) -> bool {
     one.id() == other.id()
         && one.last() == other.last()
         && one.low() == other.low()
         && one.low_fence() == other.low_fence()
         && one.high_fence() == other.high_fence()
-        && one.rows() == other.rows()
+        && are_same_rows(&one.rows(), &other.rows())
         && are_same_entries(one.entries(), other.entries())
 }
 
@@ -62,7 +91,10 @@ pub fn are_plain<L: LeafSet>(leaves: &L, plain: &PlainLeaves) -> bool {
     for place in 0..leaves.len() {
         let leaf = leaves.leaf(place);
         let count = count_below(rows, plain.fence(place.wrapping_add(1)));
-        if leaf.low_fence() != plain.fence(place) || rows.get(..count) != Some(leaf.rows()) {
+        let Some(here) = rows.get(..count) else {
+            return false;
+        };
+        if leaf.low_fence() != plain.fence(place) || !are_listed(&leaf.rows(), here) {
             return false;
         }
         rows = rows.get(count..).unwrap_or(&[]);

@@ -14,7 +14,7 @@ pub fn put_leaf(text: &mut Text, leaf: &Leaf) {
     text.put("low");
     text.put_number(leaf.low());
     text.put("rows");
-    text.put_rows(leaf.rows());
+    text.put_lent_rows(&leaf.rows());
     text.put("set");
     put_set(text, leaf);
 }
@@ -48,6 +48,6 @@ pub fn add_leaf(digest: &mut Digest, leaf: &Leaf) {
     digest.add_number(leaf.id());
     digest.add_number(leaf.last());
     digest.add_number(leaf.low());
-    digest.add_rows(leaf.rows());
+    digest.add_rows(&leaf.rows());
     digest.add_entries(leaf.entries());
 }

@@ -43,13 +43,13 @@ impl Single {
         let low = words.key()?;
         let high = words.end()?;
         answer.put("rows");
-        answer.put_rows(self.leaf.scan(&low, high.as_ref()));
+        answer.put_lent_rows(&self.leaf.scan(&low, high.as_ref()));
         Ok(())
     }
 
     fn read(&self, name: &str, words: &mut Words, answer: &mut Text) -> Result<(), Refusal> {
         match name {
-            "get" => answer.put_found(self.leaf.get(&words.key()?)),
+            "get" => answer.put_lent(self.leaf.get(&words.key()?)),
             "show" => put_leaf(answer, &self.leaf),
             "upper" => match &self.upper {
                 Some(upper) => put_leaf(answer, upper),

@@ -41,7 +41,7 @@ fn put_row(text: &mut String, value: &Option<Value>) -> Result<(), Refusal> {
 /// Appends the rows that a call was given.
 fn put_packed(text: &mut String, rows: &Rows) -> Result<(), Refusal> {
     text.push_str("rows")?;
-    let mut reader = rows.reader();
+    let mut reader = rows.lent();
     for _ in 0..rows.len() {
         if let Some((key, value)) = reader.next() {
             put_record(text, &key, &value)?;

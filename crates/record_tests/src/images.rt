@@ -1,10 +1,10 @@
 //! Images of leaves.
 ghost use Rattle.codec.specs.Images.{IsOrderedImage};
 
-use crate::rows::put_listed;
+use crate::rows::put_rows;
 use crate::walking::{Found, Reading};
 use crate::written::{marked, told, unwritten};
-use codec::{LeafImage, NUMBER_LIMIT, RowList, Taken, put_leaf_image, take_leaf_image};
+use codec::{LeafImage, NUMBER_LIMIT, Rows, Taken, put_leaf_image, take_leaf_image};
 use record_key::{Entries, Entry, Key, Refusal};
 use std::alloc::Global;
 use std::fmt::Write;
@@ -44,7 +44,7 @@ pub fn put_fields(answer: &mut String, image: &LeafImage) -> Result<(), Refusal>
     put_fence(answer, " from", &image.low_fence)?;
     put_fence(answer, " to", &image.high_fence)?;
     answer.push_str(" rows")?;
-    put_listed(answer, image.rows.as_slice())?;
+    put_rows(answer, &image.rows)?;
     answer.push_str(" entries")?;
     put_entries(answer, &image.entries)
 }
@@ -81,7 +81,7 @@ pub fn put_blank(alloc: Global, id: u64, answer: &mut String) -> Result<(), Refu
         low: 0,
         low_fence: None,
         high_fence: None,
-        rows: RowList::new(Vec::new(alloc)),
+        rows: Rows::new(alloc),
         entries: Entries::new(alloc),
     };
     let mut out = Vec::new(alloc);

@@ -80,8 +80,13 @@ fn written_apart(reading: &Reading<'_>, found: &Reply) -> Result<Option<Vec<u8>>
         Reply::Row {
             session,
             read,
-            value,
-        } => put_found(&mut out, *session, *read, value.as_ref()),
+            value: None,
+        } => put_found(&mut out, *session, *read, None),
+        Reply::Row {
+            session,
+            read,
+            value: Some(value),
+        } => put_found(&mut out, *session, *read, Some(&value.lent())),
         _ => return Ok(None),
     };
     match put {

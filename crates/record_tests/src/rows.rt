@@ -4,17 +4,9 @@ use record_key::{Key, Refusal, Value};
 use std::alloc::Global;
 use test_lines::{Words, put_key, put_text};
 
-/// Tells each row of a leaf.
-pub fn put_listed(answer: &mut String, rows: &[(Key, Value)]) -> Result<(), Refusal> {
-    for (key, value) in rows {
-        put_row(answer, key, value)?;
-    }
-    Ok(())
-}
-
-/// Tells each row of a reply.
+/// Tells each row.
 pub fn put_rows(answer: &mut String, rows: &Rows) -> Result<(), Refusal> {
-    let mut reader = rows.reader();
+    let mut reader = rows.lent();
     for _ in 0..rows.len() {
         if let Some((key, value)) = reader.next() {
             put_row(answer, &key, &value)?;
@@ -33,15 +25,10 @@ fn put_row(answer: &mut String, key: &Key, value: &Value) -> Result<(), Refusal>
 fn rows_in(alloc: Global, words: &mut Words<'_>) -> Result<Rows, Refusal> {
     let mut rows = Rows::new(alloc);
     for _ in 0..words.number()? {
-        rows.add(&[row_in(words)?])?;
+        let key = words.key()?;
+        rows.push(&key, &words.value()?.lent())?;
     }
     Ok(rows)
-}
-
-fn row_in(words: &mut Words<'_>) -> Result<(Key, Value), Refusal> {
-    let key = words.key()?;
-    let value = words.value()?;
-    Ok((key, value))
 }
 
 /// Whether rows and others are equal, and whether the rows equal their copy.

@@ -54,7 +54,8 @@ fn rows_of(alloc: Global, words: &mut Words) -> Result<Rows, Refusal> {
         if words.are_read() {
             break;
         }
-        rows.add(&[(words.key()?, words.value()?)])?;
+        let key = words.key()?;
+        rows.push(&key, &words.value()?.lent())?;
     }
     Ok(rows)
 }

@@ -78,7 +78,7 @@ pub fn put_told(text: &mut Text, numbers: Numbers, told: &Told) {
         }
         Told::Rows { txn, rows } => {
             numbers.put(text, "rows", *txn);
-            let mut reader = rows.reader();
+            let mut reader = rows.lent();
             for _ in 0..rows.len() {
                 if let Some((key, value)) = reader.next() {
                     text.put_row(&key, &value);
