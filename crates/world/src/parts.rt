@@ -125,6 +125,11 @@ impl<'a> Parts<Reply> for RowParts<'a> {
     ghost may_put = { λ parts. IsNumber parts.reading.session × IsNumber parts.reading.read };
 
     fn put(&self, out: &mut Vec<u8>) -> Result<(), Refusal> {
-        put_found(out, self.reading.session, self.reading.read, self.value.as_ref())
+        put_found(
+            out,
+            self.reading.session,
+            self.reading.read,
+            self.value.as_ref(),
+        )
     }
 }
