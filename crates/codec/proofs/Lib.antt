@@ -29,4 +29,3 @@ mod Starts
 pub mod UndoBytes
 pub mod Gaps
 pub mod RowEdits
-pub mod WordOrder

@@ -160,10 +160,10 @@ module _ (count : ℕ) (bytes : List ℕ) (some : count ≡ 0 → ⊥) (h : AreP
 
 -- ---- the rows before a place
 
-all_before : (n : ℕ) (rows : List Row) → AllByRecursion IsRow rows → AllByRecursion IsRow (take n rows)
-all_before zero rows each = tt
-all_before (suc n) [] each = tt
-all_before (suc n) (row ∷ rows) each = (each.0, all_before n rows each.1)
+pub all_take : (n : ℕ) (rows : List Row) → AllByRecursion IsRow rows → AllByRecursion IsRow (take n rows)
+all_take zero rows each = tt
+all_take (suc n) [] each = tt
+all_take (suc n) (row ∷ rows) each = (each.0, all_take n rows each.1)
 
 front_is : (front rest : List ℕ) → take (length (front ++ rest) - length rest) (front ++ rest) ≡ front
 front_is front rest =
@@ -201,7 +201,7 @@ module _ (count : ℕ) (bytes : List ℕ) (h : ArePacked (rows_spelled count byt
     before_spelled = spells (take at all) at front_part front_part_is counted
 
     pub before_packed : ArePacked (rows_spelled at front_part) front_part
-    before_packed = packs (take at all) at front_part front_part_is counted (all_before at all h.each)
+    before_packed = packs (take at all) at front_part front_part_is counted (all_take at all h.each)
 
 -- ---- rows with rising keys
 

@@ -8,7 +8,7 @@ use Rattle.record_key.specs.Rows.{Row}
 use Rattle.codec.specs.Fields.{text}
 use Rattle.codec.specs.Rows.{row_bytes, IsRow}
 use Rattle.codec.specs.PackedRows.{rows_spelled, ArePacked}
-use Rattle.codec.proofs.PackedRows.{length-spelled, spells, packs, all_both, rows_few}
+use Rattle.codec.proofs.PackedRows.{length-spelled, spells, packs, all_both, all_take, rows_few}
 
 abbrev spelled : List Row → List ℕ
 spelled rows = flat_map row_bytes rows
@@ -43,11 +43,6 @@ from_start : (at : ℕ) (rows : List Row) → drop (start at rows) (spelled rows
 from_start at rows =
     ap (drop (start at rows)) (in_two at rows)
     ∙ drop_at (spelled (take at rows)) (spelled (drop at rows)) (start at rows) refl
-
-all_take : (at : ℕ) (rows : List Row) → AllByRecursion IsRow rows → AllByRecursion IsRow (take at rows)
-all_take zero rows each = tt
-all_take (suc at) [] each = tt
-all_take (suc at) (row ∷ rows) each = (each.0, all_take at rows each.1)
 
 all_drop : (at : ℕ) (rows : List Row) → AllByRecursion IsRow rows → AllByRecursion IsRow (drop at rows)
 all_drop zero rows each = each

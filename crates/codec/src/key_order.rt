@@ -1,48 +1,12 @@
 //! The order of keys that stand as bytes.
-ghost use Rattle.std.specs.Prelude.{◌≡◌, ◌+◌, ◌≤◌, length, take, drop};
-ghost use Rattle.std.specs.Ordering.{nat_cmp};
-ghost use Rattle.std.specs.Cmp.Lexicographic.{slice_cmp};
+ghost use Rattle.std.specs.Prelude.{◌≡◌};
 ghost use Rattle.record_key.specs.Order.{is_below};
 
-use byteorder::{BigEndian, ByteOrder};
-use std::cmp::Ordering;
-
-/// Which of two texts comes first, by their bytes, a beginning first. They are compared eight bytes at a time, and at last
-/// the last eight of the shorter one's length, of which some were compared before.
-pub(crate) fn order(a: &[u8], b: &[u8]) -> Ordering
-    ensures { result ≡ slice_cmp nat_cmp a.now b.now }
-{
-    let both = a.len().min(b.len());
-    if both < 8 {
-        return a.cmp(b);
-    }
-    let mut at = 0;
-    while at < both - 8 {
-        let found = order_of_words(a, b, at);
-        if found.is_ne() {
-            return found;
-        }
-        at += 8;
-    }
-    let found = order_of_words(a, b, both - 8);
-    if found.is_ne() {
-        return found;
-    }
-    a.len().cmp(&b.len())
-}
-
-/// The order of the eight bytes from a place on.
-fn order_of_words(a: &[u8], b: &[u8], at: usize) -> Ordering
-    requires first { at + 8 ≤ length a.now }
-    requires second { at + 8 ≤ length b.now }
-    ensures { result ≡ slice_cmp nat_cmp (take 8 (drop at a.now)) (take 8 (drop at b.now)) }
-{
-    BigEndian::read_u64(&a[at..]).cmp(&BigEndian::read_u64(&b[at..]))
-}
+use record_key::order_of_texts;
 
 /// Whether the first text comes before the second.
 pub(crate) fn is_below(low: &[u8], high: &[u8]) -> bool
     ensures { result ≡ is_below low.now high.now }
 {
-    order(low, high).is_lt()
+    order_of_texts(low, high).is_lt()
 }

@@ -5,8 +5,7 @@ ghost use Rattle.record_key.specs.Rows.{IsPlaceOf};
 ghost use Rattle.codec.specs.Rows.{row_bytes, IsRow};
 ghost use Rattle.codec.specs.PackedRows.{first_text, after_text, HasText};
 
-use crate::key_order::order;
-use record_key::{Key, Value, ValueRef};
+use record_key::{Key, Value, ValueRef, order_of_texts};
 use std::cmp::Ordering;
 use std::marker::Model;
 
@@ -129,7 +128,7 @@ impl<'a> LentRows<'a> {
             let Some((text, _)) = rest.next_texts() else {
                 unreachable!()
             };
-            match order(text, key.as_bytes()) {
+            match order_of_texts(text, key.as_bytes()) {
                 Ordering::Less => {}
                 Ordering::Equal => return Ok(at),
                 Ordering::Greater => return Err(at),

@@ -79,21 +79,23 @@ impl RowBuffer {
         LentRows::new(&self.bytes, self.count)
     }
 
-    /// Makes room for so many bytes. Refused NoMemory.
+    /// Makes room for so many bytes. Refused NoMemory, where there isn't room already.
     pub fn make_room(&mut self, bytes: usize) -> Result<(), Refusal>
         ensures room { OnOk result (bytes ≤ self.new.room) }
         ensures same { self.new.rows ≡ self.old.rows }
         ensures refused { IfErr result (λ refusal. refusal ≡ Refusal.NoMemory) }
+        ensures lacked { OnErr result (self.old.room < bytes) }
     {
         self.bytes.reserve(bytes)?;
         Ok(())
     }
 
-    /// Puts copies of the rows at the end. Refused NoMemory, and unchanged then.
+    /// Puts copies of the rows at the end. Refused NoMemory, where there isn't room for them, and unchanged then.
     pub fn add(&mut self, more: &LentRows<'_>) -> Result<(), Refusal>
         ensures added { OnOk result (self.new.rows ≡ self.old.rows ++ more.now) }
         ensures unchanged { OnErr result (self.new.rows ≡ self.old.rows) }
         ensures refused { IfErr result (λ refusal. refusal ≡ Refusal.NoMemory) }
+        ensures lacked { OnErr result (self.old.room < length (flat_map row_bytes more.now)) }
     {
         self.bytes.extend_from_slice(more.as_bytes())?;
         self.count += more.len();

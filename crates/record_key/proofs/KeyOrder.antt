@@ -1,16 +1,13 @@
 -- The order of keys.
-use Rattle.std.proofs.Common.{◌≡◌, ◌≢◌, ℕ, [], ◌∷◌, ◌++◌, refl, ap, ◌∙◌}
-use Rattle.std.specs.Ordering.{nat_cmp, ordering_then}
-use Rattle.std.specs.Cmp.{nat_cmp_total}
-use Rattle.std.specs.declared.cmp.Ordering.TheVariants.{Less, Equal}
-use Rattle.std.proofs.lemmas.Cmp.{nat_list_cmp_total, tied_itself}
+use Rattle.std.proofs.Common.{◌≡◌, ◌≢◌, [], ◌∷◌, ◌++◌, refl, ap, ◌∙◌}
+use Rattle.std.specs.Ordering.{ordering_then}
+use Rattle.std.specs.declared.cmp.Ordering.TheVariants.{Less}
+use Rattle.std.proofs.lemmas.Cmp.{nat_list_cmp_total}
 use Rattle.std.proofs.lemmas.Map.Lookups.{exact_bytes}
 use Rattle.record_key.specs.Table.{Bytes}
 use Rattle.record_key.specs.Laws.{key_cmp, IsKeyOrder, WritesOneKey}
+use Rattle.record_key.proofs.Numbers.{nat_cmp-itself}
 use Rattle.record_key.proofs.Tables.{same_table, get-with_record_same, get-with_record_other}
-
-nat_cmp-itself : (x : ℕ) → nat_cmp x x ≡ Equal
-nat_cmp-itself x = tied_itself nat_cmp_total x
 
 pub key_cmp-beginning : (a b : Bytes) → b ≢ [] → key_cmp a (a ++ b) ≡ Less
 key_cmp-beginning [] [] some = absurd (some refl)

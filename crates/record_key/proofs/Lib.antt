@@ -5,7 +5,7 @@ pub mod KeyOrder
 pub mod Search
 pub mod Rows
 pub mod Numbers
-pub mod Steps
+pub mod WordOrder
 pub mod Padding
 pub mod Kept
 pub mod Packing

@@ -4,7 +4,8 @@ use Rattle.std.specs.Ordering.{nat_cmp, ordering_then, is_ne, MatchOrdering}
 use Rattle.std.specs.Cmp.Lexicographic.{slice_cmp}
 use Rattle.std.specs.declared.cmp.Ordering.{Ordering}
 use Rattle.std.specs.declared.cmp.Ordering.TheVariants.{Less, Equal, Greater}
-use Rattle.std.proofs.lemmas.Cmp.{ranked}
+use Rattle.std.specs.Cmp.{nat_cmp_total}
+use Rattle.std.proofs.lemmas.Cmp.{ranked, tied_itself}
 use Rattle.byteorder.specs.Endian.{big_from}
 use Rattle.byteorder.specs.Numbers.{big_from-cons, big_from-lt}
 
@@ -24,6 +25,9 @@ below x y = is_less x y (nat_cmp x y) (ranked x y _ refl)
 pub above : (x y : ℕ) → y < x → nat_cmp x y ≡ Greater
 above x y = is_greater x y (nat_cmp x y) (ranked x y _ refl)
 
+pub nat_cmp-itself : (x : ℕ) → nat_cmp x x ≡ Equal
+nat_cmp-itself x = tied_itself nat_cmp_total x
+
 -- two numbers above the same one lie as what they have more
 pub shifted : (c x y : ℕ) → nat_cmp (c + x) (c + y) ≡ nat_cmp x y
 shifted c x y = by (nat_cmp x y) refl (ranked x y _ refl)
@@ -34,15 +38,7 @@ shifted c x y = by (nat_cmp x y) refl (ranked x y _ refl)
     by Greater e l = let m : y < x = l in above (c + x) (c + y) (omega arith) ∙ sym e
     by Equal e l =
         let same : x ≡ y = l in
-        subst (λ z. nat_cmp (c + x) (c + z) ≡ nat_cmp x z) same (level (c + x) ∙ sym (level x))
-      where
-        level : (z : ℕ) → nat_cmp z z ≡ Equal
-        level z = at (nat_cmp z z) (ranked z z _ refl)
-          where
-            at : (r : Ordering) → MatchOrdering r (z < z) (z ≡ z) (z < z) → r ≡ Equal
-            at Less h = let e : z < z = h in absurd (omega arith)
-            at Equal h = refl
-            at Greater h = let e : z < z = h in absurd (omega arith)
+        subst (λ z. nat_cmp (c + x) (c + z) ≡ nat_cmp x z) same (nat_cmp-itself (c + x) ∙ sym (nat_cmp-itself x))
 
 abbrev pub AreBytes : List ℕ → Type 0
 AreBytes xs = (k : ℕ) → slice_index xs k < 256

@@ -1,25 +1,18 @@
--- A binary search ends at the value's place: among rows by their keys, and among entries by their numbers.
-use Rattle.std.proofs.Common.{◌≡◌, ◌⊎◌, ℕ, zero, suc, ◌<◌, ◌≤◌, List, [], ◌∷◌, length, get_or, Result, Ok, Err, refl, sym, ap, ◌∙◌, arith, inl, inr}
-use Rattle.std.specs.Prelude.{T, map}
+-- A binary search among entries by their numbers ends at the number's place.
+use Rattle.std.proofs.Common.{◌≡◌, ◌⊎◌, ℕ, zero, suc, ◌<◌, ◌≤◌, List, [], ◌∷◌, length, get_or, Result, Ok, Err, sym, ap, ◌∙◌, arith, inl, inr}
+use Rattle.std.specs.Prelude.{map}
 use Rattle.std.specs.List.Sorted.{IsSearchInRange, IsBinarySearchResult, IsNonDecreasingBy}
 use Rattle.std.specs.Ordering.{nat_cmp, ordering_index, ordering_reverse}
 use Rattle.std.specs.declared.cmp.Ordering.{Ordering}
 use Rattle.std.specs.declared.cmp.Ordering.TheVariants.{Less, Equal, Greater}
 use Rattle.std.specs.Cmp.{nat_cmp_total}
-use Rattle.std.specs.FinMap.{is_sorted}
-use Rattle.std.specs.FinMap.Entries.{below_all}
 use Rattle.std.proofs.lemmas.Bool.{cases_lt}
 use Rattle.std.proofs.lemmas.List.{length-map, get_or-map}
-use Rattle.std.proofs.lemmas.Cmp.{nat_list_cmp_total}
 use Rattle.std.proofs.Math.Nat.{eq-or-lt_of_le}
 use Rattle.record_key.proofs.Numbers.{below, above}
-use Rattle.record_key.specs.Table.{Bytes}
-use Rattle.record_key.specs.Laws.{key_cmp}
 use Rattle.record_key.specs.Places.{StandsAt, BelongsAt, IsPlace}
-use Rattle.record_key.specs.Rows.{Row, AreInOrder, IsPlaceOf}
 use Rattle.record_key.specs.declared.entry.Entry.{Entry}
 use Rattle.record_key.specs.Entries.{RiseAbove, IsPlaceOfNumber}
-use Rattle.record_key.proofs.Truths.{is_lt-Less, and_first, and_second, as_T}
 
 -- the place, by what was compared
 module _ {X : Type 0} (order : X → Ordering) where
@@ -84,46 +77,6 @@ module _ {X : Type 0} (items order : X → Ordering) (turned : (x : X) → order
       belongs_from order xs gap d within
       (λ j lt. turn (get_or xs j d) Less ((parted comparisons_rise).0 j d (omega (arith, within, lt)) lt))
       (λ lt. turn (get_or xs gap d) Greater ((parted comparisons_rise).1 gap d (omega arith) lt))
-
--- ---- rows
-
--- the rows after the first are above it
-above_first : (x : Bytes) (rows : List Row) (j : ℕ) (d : Row) → T (below_all key_cmp x rows) → j < length rows
-    → key_cmp x (get_or rows j d).0 ≡ Less
-above_first x [] j d below within = absurd (omega arith)
-above_first x (row ∷ rows) zero d below within = is_lt-Less _ (and_first _ _ below)
-above_first x (row ∷ rows) (suc j) d below within =
-    above_first x rows j d (and_second _ _ below) (omega (arith, within))
-
--- keys rise with their places
-rising : (rows : List Row) (i j : ℕ) (d : Row) → T (is_sorted key_cmp rows) → i < j → j < length rows
-    → key_cmp (get_or rows i d).0 (get_or rows j d).0 ≡ Less
-rising [] i j d sorted lt within = absurd (omega arith)
-rising (row ∷ rows) i zero d sorted lt within = absurd (omega arith)
-rising (row ∷ rows) zero (suc j) d sorted lt within =
-    above_first row.0 rows j d (and_first _ _ sorted) (omega (arith, within))
-rising (row ∷ rows) (suc i) (suc j) d sorted lt within =
-    rising rows i j d (and_second _ _ sorted) (omega (arith, lt)) (omega (arith, within))
-
-keys_part : (x y k : Bytes) (o : Ordering) → key_cmp x y ≡ Less → key_cmp y k ≡ o → Part (key_cmp x k) (key_cmp y k)
-keys_part x y k Less below is = inl (nat_list_cmp_total.trans x y k below is)
-keys_part x y k Equal below is = inl (sym (alike x) ∙ below)
-  where
-    alike : (z : Bytes) → key_cmp z y ≡ key_cmp z k
-    alike z = nat_list_cmp_total.antisymm z y ∙ ap ordering_reverse (nat_list_cmp_total.congr y k z is)
-        ∙ sym (nat_list_cmp_total.antisymm z k)
-keys_part x y k Greater below is = inr is
-
-pub rows_searched : (rows : List Row) → AreInOrder rows → (k : Bytes) (r : Result ℕ ℕ) → IsSearchInRange r (length rows)
-    → IsBinarySearchResult (λ (row : Row). key_cmp row.0 k) rows r → IsPlaceOf k rows r
-rows_searched rows ordered k r within found =
-    searched (λ (row : Row). key_cmp row.0 k) (λ (row : Row). key_cmp k row.0)
-    (λ row. nat_list_cmp_total.antisymm k row.0) rows
-    (λ i j d lt le. keys_part (get_or rows i d).0 (get_or rows j d).0 k _ (rising rows i j d (as_T _ ordered) lt le)
-    refl)
-    ([], []) r within found
-
--- ---- entries
 
 numbers_above : (l : ℕ) (es : List Entry) (j : ℕ) (d : Entry) → RiseAbove l es → j < length es
     → l < (get_or es j d).number

@@ -4,7 +4,7 @@ ghost use Rattle.std.specs.Cmp.{partial_equiv_from_equiv};
 ghost use Rattle.std.specs.Cmp.Lexicographic.{pointwise, nat_list_eq_equiv, slice_cmp};
 ghost use Rattle.std.specs.Ordering.{nat_cmp};
 
-use crate::words::order;
+use crate::words::order_of_texts;
 use std::cmp::Ordering;
 use std::fmt;
 use std::marker::Model;
@@ -66,7 +66,7 @@ impl Inline<32> {
     pub(crate) fn order(&self, other: &Inline<32>) -> Ordering
         ensures { result ≡ slice_cmp nat_cmp self.now other.now }
     {
-        let found = order(&self.bytes, &other.bytes);
+        let found = order_of_texts(&self.bytes, &other.bytes);
         if found.is_ne() {
             return found;
         }

@@ -29,3 +29,4 @@ pub use op::{Answer, Op};
 pub use plain_table::PlainTable;
 pub use refusal::Refusal;
 pub use value::Value;
+pub use words::order_of_texts;

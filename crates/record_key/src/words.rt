@@ -6,21 +6,28 @@ ghost use Rattle.std.specs.Cmp.Lexicographic.{slice_cmp};
 use byteorder::{BigEndian, ByteOrder};
 use std::cmp::Ordering;
 
-/// Which of two arrays of 32 bytes comes first.
-pub(crate) fn order(a: &[u8], b: &[u8]) -> Ordering
-    requires first { length a.now ≡ 32 }
-    requires second { length b.now ≡ 32 }
+/// Which of two texts comes first, by their bytes, a beginning first. They are compared eight bytes at a time, and at last
+/// the last eight of the shorter one's length, of which some were compared before.
+pub fn order_of_texts(a: &[u8], b: &[u8]) -> Ordering
     ensures { result ≡ slice_cmp nat_cmp a.now b.now }
 {
+    let both = a.len().min(b.len());
+    if both < 8 {
+        return a.cmp(b);
+    }
     let mut at = 0;
-    while at < 32 {
+    while at < both - 8 {
         let found = order_of_words(a, b, at);
         if found.is_ne() {
             return found;
         }
         at += 8;
     }
-    Ordering::Equal
+    let found = order_of_words(a, b, both - 8);
+    if found.is_ne() {
+        return found;
+    }
+    a.len().cmp(&b.len())
 }
 
 /// The order of the eight bytes from a place on.

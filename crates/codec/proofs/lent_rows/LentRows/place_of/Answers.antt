@@ -19,7 +19,7 @@ loop-at-preserved c =
       rest_is c.args.self.now c.loop-at.rest c.loop-at.at so_far.0 row rest c.in-Some.ensures.row,
       one_above c.args.key.now c.args.self.now c.loop-at.rest c.loop-at.at so_far.0 so_far.1 row rest
           c.in-Some.ensures.row
-          (ap (slice_cmp nat_cmp row.0) (sym c.as_bytes.ensures.bytes) ∙ sym c.order.ensures ∙ c.in-Less.is),
+          (ap (slice_cmp nat_cmp row.0) (sym c.as_bytes.ensures.bytes) ∙ sym c.order_of_texts.ensures ∙ c.in-Less.is),
     )
 
 pub returns-in-Equal-clause-place : goal.returns-in-Equal-clause-place
@@ -28,7 +28,7 @@ returns-in-Equal-clause-place c =
     let row : Row = (c.in-Some.text.now, c.in-Some.field-0-1.now) in
     stands c.args.key.now c.args.self.now c.loop-at.rest c.loop-at.at so_far.0 so_far.1 row c.next_texts.new.self
     c.in-Some.ensures.row
-    (ap (slice_cmp nat_cmp row.0) (sym c.as_bytes.ensures.bytes) ∙ sym c.order.ensures ∙ c.in-Equal.is)
+    (ap (slice_cmp nat_cmp row.0) (sym c.as_bytes.ensures.bytes) ∙ sym c.order_of_texts.ensures ∙ c.in-Equal.is)
 
 pub returns-in-Greater-clause-place : goal.returns-in-Greater-clause-place
 returns-in-Greater-clause-place c =
@@ -36,7 +36,7 @@ returns-in-Greater-clause-place c =
     let row : Row = (c.in-Some.text.now, c.in-Some.field-0-1.now) in
     belongs c.args.key.now c.args.self.now c.loop-at.rest c.loop-at.at so_far.0 so_far.1 row c.next_texts.new.self
     c.in-Some.ensures.row
-    (ap (slice_cmp nat_cmp row.0) (sym c.as_bytes.ensures.bytes) ∙ sym c.order.ensures ∙ c.in-Greater.is)
+    (ap (slice_cmp nat_cmp row.0) (sym c.as_bytes.ensures.bytes) ∙ sym c.order_of_texts.ensures ∙ c.in-Greater.is)
 
 pub returns-clause-place : goal.returns-clause-place
 returns-clause-place c =

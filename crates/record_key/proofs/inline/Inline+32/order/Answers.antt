@@ -4,11 +4,11 @@ use Rattle.std.specs.Cmp.Lexicographic.{slice_cmp}
 use Rattle.record_key.specs.Inline.{padded}
 use Rattle.record_key.proofs.Padding.{padded_order, take_short}
 use Rattle.record_key.proofs.inline.Inline+32.order.Goals as goal
-use Rattle.record_key.proofs.inline.Inline+32.order.Goals.{After-order-found}
+use Rattle.record_key.proofs.inline.Inline+32.order.Goals.{After-order_of_texts-found}
 
 -- what the arrays come to, and where they are equal the lengths
-whole : (c : After-order-found)
-    → ordering_then c.order-found.result (nat_cmp c.self.inside.len c.other.inside.len)
+whole : (c : After-order_of_texts-found)
+    → ordering_then c.order_of_texts-found.result (nat_cmp c.self.inside.len c.other.inside.len)
     ≡ slice_cmp nat_cmp c.args.self.now c.args.other.now
 whole c =
     let a = c.self.inside in
@@ -23,7 +23,7 @@ whole c =
     let second : length c.args.other.now ≤ 32 =
     subst (λ l. length c.args.other.now ≤ l) c.other.told
     (subst (λ l. length l ≤ length b.bytes) c.other.view_is (take_short b.len b.bytes)) in
-    (λ i. ordering_then (c.order-found.ensures i) (nat_cmp a.len b.len))
+    (λ i. ordering_then (c.order_of_texts-found.ensures i) (nat_cmp a.len b.len))
     ∙ (λ i. ordering_then (slice_cmp nat_cmp (xs i) (ys i)) (nat_cmp (m i) (n i)))
     ∙ padded_order 32 c.args.self.now c.args.other.now first second
 

@@ -1,6 +1,6 @@
 use Rattle.std.proofs.Common.{◌≡◌, ◌+◌, ◌-◌, sym, ◌∙◌, arith}
-use Rattle.codec.proofs.WordOrder.{ends, same_further, fewer, lengths_decide}
-use Rattle.codec.proofs.key_order.order.Goals as goal
+use Rattle.record_key.proofs.WordOrder.{ends, same_further, fewer, lengths_decide}
+use Rattle.record_key.proofs.words.order_of_texts.Goals as goal
 
 pub returns-then-is_ne : goal.returns-then-is_ne
 returns-then-is_ne c =

@@ -1,6 +1,6 @@
 use Rattle.std.proofs.Common.{◌-◌}
-use Rattle.codec.proofs.WordOrder.{AreEqualTo}
-use Rattle.codec.proofs.key_order.order.Given as goal
+use Rattle.record_key.proofs.WordOrder.{AreEqualTo}
+use Rattle.record_key.proofs.words.order_of_texts.Given as goal
 
 abbrev pub invariant-loop-at : goal.invariant-loop-at
 invariant-loop-at l = AreEqualTo l.at l.both l.a l.b

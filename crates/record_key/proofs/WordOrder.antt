@@ -1,14 +1,13 @@
 -- Two texts, compared eight bytes at a time.
-use Rattle.std.proofs.Common.{◌≡◌, ◌<◌, ◌≤◌, ℕ, ◌+◌, min, List, [], ◌∷◌, ◌++◌, length, drop, take, refl, sym, ap, ◌∙◌, arith, length-drop, take-append-drop, false, true}
+use Rattle.std.proofs.Common.{◌≡◌, ◌≤◌, ℕ, ◌+◌, min, List, [], ◌∷◌, ◌++◌, length, drop, take, refl, sym, ap, ◌∙◌, arith, length-drop, take-append-drop, false, true}
 use Rattle.std.proofs.Math.Seq.{take-add}
 use Rattle.std.proofs.lemmas.List.{take-take}
-use Rattle.std.proofs.lemmas.Cmp.{ranked}
 use Rattle.std.proofs.lemmas.Map.Lookups.{exact_bytes}
-use Rattle.std.specs.Ordering.{nat_cmp, is_ne, ordering_then, MatchOrdering}
+use Rattle.std.specs.Ordering.{nat_cmp, is_ne, ordering_then}
 use Rattle.std.specs.Cmp.Lexicographic.{slice_cmp}
 use Rattle.std.specs.declared.cmp.Ordering.{Ordering}
 use Rattle.std.specs.declared.cmp.Ordering.TheVariants.{Less, Equal, Greater}
-use Rattle.record_key.proofs.Numbers.{unequal_first, below, above, shifted}
+use Rattle.record_key.proofs.Numbers.{unequal_first, nat_cmp-itself, below, above, shifted}
 
 -- the bytes before a place, which both have, are equal
 pub record AreEqualTo (at both : ℕ) (xs ys : List ℕ) : Type 0 where
@@ -18,19 +17,11 @@ pub record AreEqualTo (at both : ℕ) (xs ys : List ℕ) : Type 0 where
 abbrev order_at : ℕ → List ℕ → List ℕ → Ordering
 order_at at xs ys = slice_cmp nat_cmp (take 8 (drop at xs)) (take 8 (drop at ys))
 
-level : (z : ℕ) → nat_cmp z z ≡ Equal
-level z = by (nat_cmp z z) (ranked z z _ refl)
-  where
-    by : (r : Ordering) → MatchOrdering r (z < z) (z ≡ z) (z < z) → r ≡ Equal
-    by Less h = let e : z < z = h in absurd (omega arith)
-    by Equal h = refl
-    by Greater h = let e : z < z = h in absurd (omega arith)
-
 -- what both begin with decides nothing
 behind : (front xs ys : List ℕ) → slice_cmp nat_cmp (front ++ xs) (front ++ ys) ≡ slice_cmp nat_cmp xs ys
 behind [] xs ys = refl
 behind (x ∷ front) xs ys =
-    ap (λ (o : Ordering). ordering_then o (slice_cmp nat_cmp (front ++ xs) (front ++ ys))) (level x)
+    ap (λ (o : Ordering). ordering_then o (slice_cmp nat_cmp (front ++ xs) (front ++ ys))) (nat_cmp-itself x)
     ∙ behind front xs ys
 
 rest_decides : (at : ℕ) (xs ys : List ℕ) → take at xs ≡ take at ys
