@@ -1,6 +1,6 @@
 //! A leaf: records in key order, and which requests it has performed.
 //!
-//! Knows: the table of operations of `record_key`, packed rows, and abstract page LSNs.
+//! Knows: the table of operations of `record_key`, the packed rows of `codec`, and abstract page LSNs.
 //! Must not know: transactions, compensation, sessions, who sends a request or how often.
 //! Promises the next crates: a new number is performed as the table says and captured with its answer, a
 //! captured one changes nothing; what stands above an end is taken back as if it had never been done; and a leaf that

@@ -12,13 +12,13 @@ use Rattle.pool_journal.specs.declared.failure.Failure.{Failure}
 abbrev pub no_errand : Errand
 no_errand = record { request = None; reply = None; commits = false }
 
-abbrev pub is_commit : Out → Bool
-is_commit (out.CommitLogged n) = true
-is_commit _ = false
+abbrev pub is_commit_logged : Out → Bool
+is_commit_logged (out.CommitLogged n) = true
+is_commit_logged _ = false
 
 -- nothing is sent yet of a call that came to this
 abbrev pub errand_of : Out → Errand
-errand_of o = record { request = None; reply = None; commits = is_commit o }
+errand_of o = record { request = None; reply = None; commits = is_commit_logged o }
 
 -- the step is made for this transaction: it sends its request, serves that or takes the reply to it, or undoes; where the
 -- transaction commits, it makes the log stable

@@ -116,9 +116,6 @@ module _ (log : List DcRecord) (before after : List LeafView) (left right : Leaf
   left_apart : (part_in left.id (parts_of before) ≡ None) × (part_in left.id (parts_of (right ∷ after)) ≡ None)
   left_apart = apart_of before (right ∷ after) left (leaves_once log (before ++ left ∷ right ∷ after) legal current)
 
-  right_apart : (part_in right.id (parts_of before) ≡ None) × (part_in right.id (parts_of after) ≡ None)
-  right_apart = second_apart before after left right (leaves_once log (before ++ left ∷ right ∷ after) legal current)
-
   join_parts : parts_of (before ++ both ∷ after) ≡ shape (merge_of log left right ∷ log)
   join_parts =
       parts_amid before (both ∷ after)
@@ -134,15 +131,17 @@ module _ (log : List DcRecord) (before after : List LeafView) (left right : Leaf
       ∙ second_next before after left right (leaves_once log (before ++ left ∷ right ∷ after) legal current) in
       let fits : FitsMerge log left.id right.id (image_of both) =
       join_fits log left right legal lasts.0 lasts.1.0 next in
+      let apart = second_apart before after left right
+      (leaves_once log (before ++ left ∷ right ∷ after) legal current) in
       let stay : (x : LeafView) → x.id ≢ left.id → x.id ≢ right.id → IsCurrent log x.id x
       → IsCurrent (merge_of log left right ∷ log) x.id x =
       λ x other gone old. merge_current log left.id right.id (image_of both) x x.id fits other gone old in
       all_appended (λ (x : LeafView). IsCurrent (merge_of log left right ∷ log) x.id x) before (both ∷ after)
-      (others_stay log (merge_of log left right ∷ log) left.id right.id before stay left_apart.0 right_apart.0 firsts) (
+      (others_stay log (merge_of log left right ∷ log) left.id right.id before stay left_apart.0 apart.0 firsts) (
         subst (λ (x : LeafView). IsCurrent (merge_of log left right ∷ log) x.id x) (leaf_again both)
             (merged_current log left.id right.id (image_of both) fits),
         others_stay log (merge_of log left right ∷ log) left.id right.id after stay
-            (not_in left.id (part_of right) (parts_of after) left_apart.1).rest right_apart.1 lasts.1.1,
+            (not_in left.id (part_of right) (parts_of after) left_apart.1).rest apart.1 lasts.1.1,
       )
 
   pub join_stays : AreCurrent (merge_of log left right ∷ log) (before ++ both ∷ after)

@@ -5,10 +5,11 @@ use Rattle.node_laws.specs.declared.event.Event.{Event}
 use Rattle.node_laws.specs.declared.event.Event.TheVariants as event
 use Rattle.node_laws.specs.declared.event.Out.{Out}
 use Rattle.node_laws.specs.declared.event.Out.TheVariants as out
+use Rattle.pool_journal.specs.Errands.{is_commit_logged}
 use Rattle.pool_journal.specs.Sessions.{is_among, line_to, only_if}
 use Rattle.session_answers.specs.Again.{is_given}
 use Rattle.session_answers.specs.Answers.{TellsCommit}
-use Rattle.session_answers.specs.Asking.{both, gives_answer, gives_back, gives_commit, gives_rolled_back, gives_row, gives_rows, is_answer, is_asked, is_back, is_commit_logged, is_committed, is_logged, is_rolled_back, is_rolling, is_row, is_rows, is_told_by}
+use Rattle.session_answers.specs.Asking.{both, gives_answer, gives_back, gives_commit, gives_rolled_back, gives_row, gives_rows, is_answer, is_asked, is_back, is_committed, is_logged, is_rolled_back, is_rolling, is_row, is_rows, is_told_by}
 
 pub one_line : (b : Bool) (told line : Line) → only_if b told ≡ Some line → line ≡ told
 one_line true told line is = let same : told ≡ line = cc (is) in sym same

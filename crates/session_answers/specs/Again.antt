@@ -8,13 +8,13 @@ use Rattle.node_laws.specs.declared.event.Event.{Event}
 use Rattle.node_laws.specs.declared.event.Event.TheVariants as event
 use Rattle.node_laws.specs.declared.event.Out.{Out}
 use Rattle.node_laws.specs.declared.event.Out.TheVariants as out
-use Rattle.pool_journal.specs.Errands.{EndsWithFailure}
+use Rattle.pool_journal.specs.Errands.{EndsWithFailure, is_commit_logged}
 use Rattle.pool_journal.specs.Failing.{refusal_of}
 use Rattle.pool_journal.specs.Sessions.{SessionCall, Part, called_as, calls, IsClosed}
 use Rattle.pool_journal.specs.Slots.{Slot, Shown}
 use Rattle.pool_journal.specs.declared.failure.Failure.{Failure}
 use Rattle.session_answers.specs.Answers.{Finishes, IsOver, TellsCommit}
-use Rattle.session_answers.specs.Asking.{both, gives_answer, gives_back, gives_commit, gives_rolled_back, gives_row, gives_rows, is_answered, is_asked, is_commit_logged, is_logged, is_rolling}
+use Rattle.session_answers.specs.Asking.{both, gives_answer, gives_back, gives_commit, gives_rolled_back, gives_row, gives_rows, is_answered, is_asked, is_logged, is_rolling}
 use Rattle.session_answers.specs.Unfinished.{IsUnfinished, call_in}
 use Rattle.session_answers.specs.declared.ended.Ended.{Ended}
 use Rattle.session_answers.specs.declared.ended.Ended.TheVariants as ended

@@ -7,6 +7,7 @@ use Rattle.node_laws.specs.declared.event.Out.{Out}
 use Rattle.node_laws.specs.declared.event.Out.TheVariants as out
 use Rattle.session_answers.specs.declared.ask.Ask.{Ask}
 use Rattle.session_answers.specs.declared.ask.Ask.TheVariants as ask
+use Rattle.pool_journal.specs.Errands.{is_commit_logged}
 use Rattle.pool_journal.specs.Sessions.{SessionCall, is_pending}
 
 -- the event that it is of this transaction
@@ -40,10 +41,6 @@ is_asked _ = false
 abbrev pub is_rolling : Out → Bool
 is_rolling out.RollingBack = true
 is_rolling _ = false
-
-abbrev pub is_commit_logged : Out → Bool
-is_commit_logged (out.CommitLogged n) = true
-is_commit_logged _ = false
 
 -- ---- the lines that answer it
 

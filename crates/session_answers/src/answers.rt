@@ -4,7 +4,8 @@ ghost use Rattle.node_laws.specs.declared.event.Out as outs;
 ghost use Rattle.node_laws.specs.declared.event.Out.TheVariants as out;
 ghost use Rattle.session_answers.specs.Again.{IsGiven, IsNotTold, IsToldSo, is_given};
 ghost use Rattle.session_answers.specs.Answers.{AreShown, IsRefusal, IsToldAs, IsAtOnce, TellsCommit};
-ghost use Rattle.session_answers.specs.Asking.{both, is_begun, is_saved, is_logged, is_asked, is_rolling, is_commit_logged, gives_answer, gives_row, gives_rows, gives_back, gives_rolled_back, gives_commit};
+ghost use Rattle.pool_journal.specs.Errands.{is_commit_logged};
+ghost use Rattle.session_answers.specs.Asking.{both, is_begun, is_saved, is_logged, is_asked, is_rolling, gives_answer, gives_row, gives_rows, gives_back, gives_rolled_back, gives_commit};
 
 use crate::ended::{Ended, why};
 use crate::told::Told;
