@@ -1,6 +1,6 @@
 //! Keys and values by their lengths and their order, refusals by number and name, and inverses.
 use inverse::inverse;
-use record_key::{Answer, Key, Op, Refusal};
+use record_key::{Answer, Key, Op, Refusal, order_of_texts};
 use std::alloc::Global;
 use std::cmp::Ordering;
 use std::fmt::Write;
@@ -120,6 +120,7 @@ fn is_in_order(one: &Key, other: &Key) -> bool {
     let order = one.as_bytes().cmp(other.as_bytes());
     one.cmp(other) == order
         && one.partial_cmp(other) == Some(order)
+        && order_of_texts(one.as_bytes(), other.as_bytes()) == order
         && (one == other) == (one.as_bytes() == other.as_bytes())
 }
 

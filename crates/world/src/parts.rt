@@ -1,6 +1,6 @@
 //! Messages as they are at hand when they are sent: whole, or as parts that stand elsewhere and are lent, so that none
 //! is made only to be spelled.
-ghost use Rattle.std.specs.Prelude.{◌≡◌, ◌+◌, ◌<◌, ◌++◌, false, vec_len, vec_capacity, OnOk, OnErr, IfErr};
+ghost use Rattle.std.specs.Prelude.{◌≡◌, ◌+◌, ◌<◌, ◌++◌, false, length, max, vec_len, vec_capacity, OnOk, OnErr, IfErr};
 ghost use Rattle.std.specs.Option.{option_copied, option_map};
 ghost use Rattle.record_key.specs.Lent.{answer_lent};
 ghost use Rattle.codec.specs.declared.reply.Reply.TheVariants as says;
@@ -26,8 +26,8 @@ pub(crate) trait Parts<M: Message> {
     /// It may be written.
     ghost may_put: { Self → Type 0 };
 
-    /// Appends the message's frame. Refused NoMemory, and nothing is appended then; one without rows only where there
-    /// was no room for 264 bytes.
+    /// Appends the message's frame. Refused NoMemory, only where there was no room for it or for 264 bytes, and nothing is
+    /// appended then; one without rows only where there was none for 264.
     fn put(&self, out: &mut Vec<u8>) -> Result<(), Refusal>
         requires { may_put self.now }
         ensures spelling { OnOk result (out.new.items ≡ out.old.items ++ frame (M.spell (message self.now))) }
@@ -35,7 +35,9 @@ pub(crate) trait Parts<M: Message> {
         ensures refused { OnErr result (out.new.items ≡ out.old.items) }
         ensures cause { IfErr result (λ refusal. refusal ≡ Refusal.NoMemory) }
         ensures short { OnErr result (M.is_long (message self.now) ≡ false
-            → vec_capacity out.old < vec_len out.old + 264) };
+            → vec_capacity out.old < vec_len out.old + 264) }
+        ensures lacked { OnErr result (vec_capacity out.old
+            < vec_len out.old + max 264 (length (frame (M.spell (message self.now))))) };
 }
 
 impl Parts<Request> for Request {

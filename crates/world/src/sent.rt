@@ -1,6 +1,6 @@
 //! Messages as they were sent: their frames one after another in one buffer, and an index of places. What was sent
 //! stays: a message may be delivered any number of times, late, or never.
-ghost use Rattle.std.specs.Prelude.{◌≡◌, ◌<◌, ◌++◌, ◌∷◌, ◌⊎◌, [], true, false, length, Some, IfOk, IfErr, OnOk, OnErr, OnSome};
+ghost use Rattle.std.specs.Prelude.{◌≡◌, ◌<◌, ◌++◌, ◌∷◌, ◌⊎◌, [], true, false, length, Some, IfOk, IfErr, IfNone, OnOk, OnErr, OnSome};
 ghost use Rattle.codec.specs.FrameIndex.{places_of, Indexes};
 ghost use Rattle.node_laws.specs.Halves.{IsNextNumber};
 ghost use Rattle.node_laws.specs.Messages.{message_at};
@@ -68,6 +68,7 @@ impl<M: Message> Sent<M> {
     fn make_room(&mut self) -> Result<(), Refusal>
         ensures same { self.new.messages ≡ self.old.messages }
         ensures room { OnOk result (self.new.has_room ≡ true) }
+        ensures lacked { OnErr result (self.old.has_room ≡ false) }
         ensures cause { IfErr result (λ refusal. refusal ≡ Refusal.NoMemory) }
     {
         self.bytes.reserve(SHORT_LEN)?;
@@ -75,11 +76,13 @@ impl<M: Message> Sent<M> {
         Ok(())
     }
 
-    /// The number of the next message; room for one without rows is made. None where memory for that is refused.
+    /// The number of the next message; room for one without rows is made. None where there is none and memory for it is
+    /// refused.
     pub(crate) fn next(&mut self) -> Option<u64>
         ensures same { self.new.messages ≡ self.old.messages }
         ensures number { IsNextNumber self.old.messages result }
         ensures room { OnSome result (self.new.has_room ≡ true) }
+        ensures lacked { IfNone result (self.old.has_room ≡ false) }
     {
         self.make_room().ok()?;
         Some(self.len() + 1)
