@@ -1,23 +1,8 @@
 /* What the face for C refuses and gives: each line says the status that its call is to have. Prints those that have
  * another, and then how many had the right one. */
-#include "jakumshe.h"
+#include "expect.h"
 
-#include <stdio.h>
 #include <string.h>
-
-static int right, wrong;
-
-#define EXPECT(want, call) expect((want), (call), __LINE__)
-
-static void expect(int want, int status, int line)
-{
-    if (status == want) {
-        right++;
-    } else {
-        wrong++;
-        printf("line %d: %s for %s\n", line, jakumshe_name(status).text, jakumshe_name(want).text);
-    }
-}
 
 static void refuse_nulls(struct jakumshe_node *node, uint64_t txn)
 {

@@ -5,13 +5,7 @@
 # addresses, leaks and undefined behaviour.
 set -eu
 cd "$(dirname "$0")/.."
-folder=$(mktemp -d)
-trap 'rm -rf "$folder"' EXIT
-kit=$(dirname "$(rt doc)")
-compile() {
-    "${CC:-cc}" -std=c11 -Wall -Wextra -Wpedantic -Werror -O1 -g -Iinclude "$@" c/jakumshe_store.c \
-        crates/jakumshe/out/libjakumshe.a "$kit/c/liblibc_c.a"
-}
+. tests/compile.sh
 status=0
 for checks in "" -fsanitize=address,undefined; do
     # No option has a space.

@@ -3,6 +3,7 @@
  * counter N times, each time in a transaction of its own, and prints the sum once that is committed; `c_store read FOLDER`
  * prints it alone. */
 #define _DEFAULT_SOURCE
+#include "expect.h"
 #include "jakumshe_store.h"
 
 #include <fcntl.h>
@@ -14,20 +15,6 @@
 #include <sys/resource.h>
 #include <sys/stat.h>
 #include <unistd.h>
-
-static int right, wrong;
-
-#define EXPECT(want, call) expect((want), (call), __LINE__)
-
-static void expect(int want, int status, int line)
-{
-    if (status == want) {
-        right++;
-    } else {
-        wrong++;
-        printf("line %d: %s for %s\n", line, jakumshe_name(status).text, jakumshe_name(want).text);
-    }
-}
 
 static char *below(const char *folder, const char *name)
 {

@@ -5,13 +5,7 @@
 # program that counts, one commit a number, the sum that the store has with the last one that was printed.
 set -eu
 cd "$(dirname "$0")/.."
-folder=$(mktemp -d)
-trap 'rm -rf "$folder"' EXIT
-kit=$(dirname "$(rt doc)")
-compile() {
-    "${CC:-cc}" -std=c11 -Wall -Wextra -Wpedantic -Werror -O1 -g -Iinclude "$@" c/jakumshe_store.c \
-        crates/jakumshe/out/libjakumshe.a "$kit/c/liblibc_c.a"
-}
+. tests/compile.sh
 status=0
 compile -o "$folder/bank" examples/c/bank.c
 "$folder/bank" "$folder/bank_store" | diff - examples/c/bank.out || status=1
