@@ -1,3 +1,4 @@
+# shellcheck shell=sh
 # Sourced at the repository's top, after `rt lib` in crates/jakumshe: makes a folder, which is removed at the end, and
 # defines `compile ARGUMENTS`, which links a program in C with the face for C and that library.
 folder=$(mktemp -d)
