@@ -6,6 +6,7 @@ use Rattle.history.specs.declared.record.Record.{Record}
 use Rattle.history.specs.declared.record.Record.TheVariants as is
 use Rattle.inverse.specs.Inverse.{undo_of}
 use Rattle.record_key.specs.Amounts.{negated}
+use Rattle.record_key.specs.Packed.{kind_of}
 use Rattle.record_key.specs.Table.{Bytes, key_of}
 use Rattle.record_key.specs.declared.op.Op.{Op}
 use Rattle.record_key.specs.declared.refusal.Refusal.{Refusal}
@@ -61,17 +62,6 @@ module _ (o : Op) (op rest : List ℕ) (whole : op ≡ op_bytes o) (behind : res
 
 -- ---- an answer
 
-abbrev answer_kind : Answer → ℕ
-answer_kind Inserted = 1
-answer_kind (Updated value) = 2
-answer_kind (Was None) = 3
-answer_kind (Was (Some value)) = 4
-answer_kind (Deleted value) = 5
-answer_kind Exists = 6
-answer_kind NoRecord = 7
-answer_kind NotNumber = 8
-answer_kind (Added amount) = 9
-
 abbrev answer_fields : Answer → List ℕ
 answer_fields Inserted = []
 answer_fields (Updated value) = text value
@@ -83,7 +73,7 @@ answer_fields NoRecord = []
 answer_fields NotNumber = []
 answer_fields (Added amount) = number amount
 
-answer_spelled : (a : Answer) → answer_bytes a ≡ answer_kind a ∷ answer_fields a
+answer_spelled : (a : Answer) → answer_bytes a ≡ kind_of a ∷ answer_fields a
 unfolding answer_bytes
 answer_spelled Inserted = refl
 answer_spelled (Updated value) = refl
@@ -97,7 +87,7 @@ answer_spelled (Added amount) = refl
 
 -- ---- what undoes it, by its kind
 
-deletes : (k : Bytes) (a : Answer) → (answer_kind a ≡ 1) ⊎ (answer_kind a ≡ 3)
+deletes : (k : Bytes) (a : Answer) → (kind_of a ≡ 1) ⊎ (kind_of a ≡ 3)
     → (1 ∷ 4 ∷ []) ++ (text k ++ []) ≡ optional op_bytes (undo_of k a)
 unfolding op_bytes
 deletes k Inserted is = ap (λ (b : List ℕ). 1 ∷ 4 ∷ b) (append-nil (text k))
@@ -110,7 +100,7 @@ deletes k NoRecord is = elim is [ inl e ↦ absurd (cc) | inr e ↦ absurd (cc) 
 deletes k NotNumber is = elim is [ inl e ↦ absurd (cc) | inr e ↦ absurd (cc) ]
 deletes k (Added amount) is = elim is [ inl e ↦ absurd (cc) | inr e ↦ absurd (cc) ]
 
-updates : (k : Bytes) (a : Answer) → (answer_kind a ≡ 2) ⊎ (answer_kind a ≡ 4)
+updates : (k : Bytes) (a : Answer) → (kind_of a ≡ 2) ⊎ (kind_of a ≡ 4)
     → (1 ∷ 2 ∷ []) ++ (text k ++ answer_fields a) ≡ optional op_bytes (undo_of k a)
 unfolding op_bytes
 updates k (Updated value) is = refl
@@ -123,7 +113,7 @@ updates k NoRecord is = elim is [ inl e ↦ absurd (cc) | inr e ↦ absurd (cc) 
 updates k NotNumber is = elim is [ inl e ↦ absurd (cc) | inr e ↦ absurd (cc) ]
 updates k (Added amount) is = elim is [ inl e ↦ absurd (cc) | inr e ↦ absurd (cc) ]
 
-inserts : (k : Bytes) (a : Answer) → answer_kind a ≡ 5
+inserts : (k : Bytes) (a : Answer) → kind_of a ≡ 5
     → (1 ∷ 1 ∷ []) ++ (text k ++ answer_fields a) ≡ optional op_bytes (undo_of k a)
 unfolding op_bytes
 inserts k (Deleted value) is = refl
@@ -140,7 +130,7 @@ inserts k (Added amount) is = absurd (cc)
 abbrev TakesBack : List ℕ → List ℕ → Type 0
 TakesBack amount given = (x : ℕ) → IsAmount x → amount ≡ number x → given ≡ number (negated x)
 
-adds : (k : Bytes) (a : Answer) (given : List ℕ) → IsAnswer a → answer_kind a ≡ 9 → TakesBack (answer_fields a) given
+adds : (k : Bytes) (a : Answer) (given : List ℕ) → IsAnswer a → kind_of a ≡ 9 → TakesBack (answer_fields a) given
     → (1 ∷ 5 ∷ []) ++ (text k ++ given) ≡ optional op_bytes (undo_of k a)
 unfolding op_bytes
 adds k (Added amount) given fits is back =
@@ -163,7 +153,7 @@ record IsIdleKind (n : ℕ) : Type 0 where
   inserts : n ≢ 5
   adds : n ≢ 9
 
-undoes_none : (k : Bytes) (a : Answer) → IsIdleKind (answer_kind a) → (0 ∷ []) ≡ optional op_bytes (undo_of k a)
+undoes_none : (k : Bytes) (a : Answer) → IsIdleKind (kind_of a) → (0 ∷ []) ≡ optional op_bytes (undo_of k a)
 undoes_none k Exists h = refl
 undoes_none k NoRecord h = refl
 undoes_none k NotNumber h = refl
@@ -177,10 +167,10 @@ undoes_none k (Added amount) h = absurd (h.adds refl)
 -- of the bytes of an answer, which begin with this kind
 module _ (a : Answer) (answer : List ℕ) (n : ℕ) (old : List ℕ) (begins : answer ≡ n ∷ old)
     (spells : answer ≡ answer_bytes a) where
-  both : n ∷ old ≡ answer_kind a ∷ answer_fields a
+  both : n ∷ old ≡ kind_of a ∷ answer_fields a
   both = sym begins ∙ spells ∙ answer_spelled a
 
-  kind_is : n ≡ answer_kind a
+  kind_is : n ≡ kind_of a
   kind_is = cc both
 
   old_is : old ≡ answer_fields a
@@ -222,7 +212,7 @@ amount_read amount x fits is =
 
 -- ---- the kinds that are undone
 
-below_six : (k : Bytes) (a : Answer) → answer_kind a < 6 → nat_lt (answer_kind a) 6 ≡ is_some (undo_of k a)
+below_six : (k : Bytes) (a : Answer) → kind_of a < 6 → nat_lt (kind_of a) 6 ≡ is_some (undo_of k a)
 below_six k Inserted less = refl
 below_six k (Updated value) less = refl
 below_six k (Was None) less = refl
@@ -233,7 +223,7 @@ below_six k NoRecord less = absurd (omega (arith, less))
 below_six k NotNumber less = absurd (omega (arith, less))
 below_six k (Added amount) less = absurd (omega (arith, less))
 
-above_eight : (k : Bytes) (a : Answer) → 6 ≤ answer_kind a → nat_lt 8 (answer_kind a) ≡ is_some (undo_of k a)
+above_eight : (k : Bytes) (a : Answer) → 6 ≤ kind_of a → nat_lt 8 (kind_of a) ≡ is_some (undo_of k a)
 above_eight k Exists least = refl
 above_eight k NoRecord least = refl
 above_eight k NotNumber least = refl
@@ -246,7 +236,7 @@ above_eight k (Deleted value) least = absurd (omega (arith, least))
 
 module _ (k : Bytes) (a : Answer) (answer : List ℕ) (n : ℕ) (old : List ℕ) (begins : answer ≡ n ∷ old)
     (spells : answer ≡ answer_bytes a) where
-  same_kind : n ≡ answer_kind a
+  same_kind : n ≡ kind_of a
   same_kind = kind_is a answer n old begins spells
 
   pub undone_below : n < 6 → nat_lt n 6 ≡ is_some (undo_of k a)

@@ -1,6 +1,7 @@
 -- A history: one list of answered operations, the newest first, with the rolled-back ones crossed out;
 -- and the plain map that the others leave.
 use Rattle.std.specs.Prelude.{ℕ, ◌==◌, ◌&&◌, ◌||◌, Bool, true, not, List, [], ◌∷◌, map, filter, nat_lt, if◌then◌else◌}
+use Rattle.std.specs.List.{list_any}
 use Rattle.std.specs.FinMap as table
 use Rattle.record_key.specs.declared.op.Op.{Op}
 use Rattle.record_key.specs.declared.op.Answer.{Answer}
@@ -35,6 +36,10 @@ cross p t h = map (crossed_if p t) h
 -- the numbers of a transaction's entries
 abbrev pub numbers_of : ℕ → List Entry → List ℕ
 numbers_of t h = map (λ e. e.number) (filter (λ e. e.txn == t) h)
+
+-- a number is one of these
+abbrev pub is_among : ℕ → List ℕ → Bool
+is_among n numbers = list_any (λ m. m == n) numbers
 
 -- a transaction's entries
 abbrev pub entries_of : ℕ → List Entry → List Entry

@@ -2,7 +2,7 @@
 -- its savepoints, its last operation and the spans it holds. One step is a call with what it gave, a line
 -- that a client is told, or a crash of the transaction component.
 use Rattle.std.specs.Prelude.{◌≡◌, ◌≢◌, ◌⊎◌, ℕ, ◌+◌, ◌-◌, ◌<◌, ◌≤◌, ◌==◌, ◌||◌, Bool, true, false, not, List, [], ◌∷◌, ◌++◌, Option, Some, None, length, map, nat_lt, slice_get, take, if◌then◌else◌}
-use Rattle.std.specs.List.{AllByRecursion, list_any}
+use Rattle.std.specs.List.{AllByRecursion}
 use Rattle.std.specs.FinMap.{get}
 use Rattle.record_key.specs.declared.op.Op.{Op}
 use Rattle.record_key.specs.declared.op.Answer.{Answer}
@@ -10,7 +10,7 @@ use Rattle.record_key.specs.declared.refusal.Refusal.{Refusal}
 use Rattle.record_key.specs.declared.refusal.Refusal.TheVariants as no
 use Rattle.record_key.specs.Table.{Bytes, answer_in}
 use Rattle.record_key.specs.Order.{Range, HasKeys, one_key, rows_in}
-use Rattle.history.specs.History.{Entry, plain, placed, cross, numbers_of, is_left, left_of, lost}
+use Rattle.history.specs.History.{Entry, plain, placed, cross, numbers_of, is_among, is_left, left_of, lost}
 use Rattle.history.specs.Spans.{Span, Shared, changed_span, AnyConflict}
 
 -- what a read asks for: the record of a key, or the records of a range, to the end where it has no upper one
@@ -277,7 +277,7 @@ Step m (Saves t s) n =
 Step m (GoesBack t s) n =
     (kept : List ℕ) × HasStatus m t Open × (1 ≤ s) × (slice_get (m.txns t).saves (s - 1) ≡ Some kept)
     × (n ≡ record (with_txn m t (record (m.txns t) { status = Rolling (Some s); saves = take s (m.txns t).saves }))
-    { h = cross (λ k. not (list_any (λ j. j == k) kept)) t m.h })
+    { h = cross (λ k. not (is_among k kept)) t m.h })
 Step m (TellsBack t s) n = HasStatus m t (Rolling (Some s)) × (n ≡ with_status m t Open)
 Step m (RollsBack t) n =
     HasStatus m t Open × (n ≡ record (with_status m t (Rolling None)) { h = cross (λ _. true) t m.h })

@@ -15,7 +15,8 @@ use Rattle.log_laws.proofs.Checking.{is_none, latest_some, latest_unique}
 use Rattle.log_laws.proofs.Undo.{latest_found, earlier_found}
 use Rattle.logical_log.specs.Index.{is_answered}
 use Rattle.logical_log.specs.declared.replay.Index.{Index}
-use Rattle.logical_log.specs.Replay.{IsIndex, KeptOf, KeptOn, AddsTo, is_among, latest_in, holder_in, adders_of, agrees, agrees_if, is_free, OpenAt, ReadyOf}
+use Rattle.history.specs.History.{is_among}
+use Rattle.logical_log.specs.Replay.{IsIndex, KeptOf, KeptOn, AddsTo, latest_in, holder_in, adders_of, agrees, agrees_if, is_free, OpenAt, ReadyOf}
 use Rattle.logical_log.proofs.Index.{nothing_answered}
 use Rattle.logical_log.proofs.Answered.{answered_at, test_of}
 

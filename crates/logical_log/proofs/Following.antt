@@ -21,7 +21,8 @@ use Rattle.logical_log.specs.declared.replay.Index.{Index}
 use Rattle.logical_log.specs.Adders.{stays, PutsAdders}
 use Rattle.logical_log.specs.NotSession.{last_with}
 use Rattle.logical_log.proofs.NotSession.{last_longer}
-use Rattle.logical_log.specs.Replay.{IsIndex, IsAnalysis, TakesIn, latest_in, holder_in, adders_of, is_among, KeptOf, KeptOn, AddsTo, AddedBy, Puts, Follows, Holds, Gains}
+use Rattle.history.specs.History.{is_among}
+use Rattle.logical_log.specs.Replay.{IsIndex, IsAnalysis, TakesIn, latest_in, holder_in, adders_of, KeptOf, KeptOn, AddsTo, AddedBy, Puts, Follows, Holds, Gains}
 
 -- the record neither begins nor ends the transaction, and is no step of it
 record Apart (r : Record) (log : List Record) (t : ℕ) : Type 0 where

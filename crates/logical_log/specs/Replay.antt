@@ -2,7 +2,7 @@
 -- for each key the only transaction that may hold it alone, and those that may hold it for Adds.
 use Rattle.std.specs.Prelude.{◌≡◌, ◌≢◌, ◌⊎◌, ℕ, ◌+◌, ◌==◌, ◌&&◌, ◌||◌, Bool, true, false, not, List, [], ◌∷◌, ◌++◌, Option, Some, None, is_some, filter, length, if◌then◌else◌}
 use Rattle.std.specs.Bool.{MatchBool}
-use Rattle.std.specs.List.{list_any, list_all}
+use Rattle.std.specs.List.{list_all}
 use Rattle.std.specs.BTreeMap as tree
 use Rattle.std.specs.Ordering.{nat_cmp}
 use Rattle.record_key.specs.declared.op.Op.{Op}
@@ -10,6 +10,7 @@ use Rattle.record_key.specs.Laws.{key_cmp}
 use Rattle.record_key.specs.Table.{Bytes, key_of, is_add}
 use Rattle.history.specs.declared.record.Record.{Record}
 use Rattle.history.specs.declared.record.Record.TheVariants as is
+use Rattle.history.specs.History.{is_among}
 use Rattle.history.specs.Log.{IsOpen, IsStepOf, IsOpBy}
 use Rattle.history.specs.Legal.{IsLegal, IsIdle, IsLatestOrNone, FitsCheckpoint}
 use Rattle.logical_log.specs.declared.analysis.Analysis.{Analysis}
@@ -54,9 +55,6 @@ pub record HeldBy (log : List Record) (k : Bytes) (t : ℕ) : Type 0 where
 abbrev pub KeptOn : List Record → Bytes → Option ℕ → Type 0
 KeptOn log k (Some t) = HeldBy log k t
 KeptOn log k None = (n u : ℕ) (o : Op) → IsOpBy log n u o → key_of o ≡ k → is_add o ≡ false → IsOpen log u → ⊥
-
-abbrev pub is_among : ℕ → List ℕ → Bool
-is_among u us = list_any (λ v. v == u) us
 
 -- the transaction has an Add on the key
 pub record AddsTo (log : List Record) (k : Bytes) (u : ℕ) : Type 0 where

@@ -110,17 +110,6 @@ unequal_first n xs ys p q h = order_parts n xs ys p q ∙ stops _ _ h
     stops Equal b h = absurd (true≢false (sym h))
     stops Greater b h = refl
 
--- where they don't the others do
-pub equal_first : (n : ℕ) (xs ys : List ℕ) → n ≤ length xs → n ≤ length ys
-    → is_ne (slice_cmp nat_cmp (take n xs) (take n ys)) ≡ false
-    → slice_cmp nat_cmp xs ys ≡ slice_cmp nat_cmp (drop n xs) (drop n ys)
-equal_first n xs ys p q h = order_parts n xs ys p q ∙ passes _ _ h
-  where
-    passes : (a b : Ordering) → is_ne a ≡ false → ordering_then a b ≡ b
-    passes Less b h = absurd (true≢false h)
-    passes Equal b h = refl
-    passes Greater b h = absurd (true≢false h)
-
 pub window_bytes : (at : ℕ) (xs : List ℕ) → AreBytes xs → AreBytes (drop at xs)
 window_bytes zero xs h = h
 window_bytes (suc at) [] h = h

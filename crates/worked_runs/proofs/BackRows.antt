@@ -1,9 +1,8 @@
 -- A run with a savepoint, and why its wrong version is none.
-use Rattle.std.specs.Prelude.{◌==◌, not}
-use Rattle.std.specs.List.{list_any}
+use Rattle.std.specs.Prelude.{not}
 use Rattle.std.proofs.Common.{◌≡◌, ℕ, List, Option, [], ◌∷◌, refl, sym, ap, ◌∙◌, subst, arith, true, Some}
 use Rattle.record_key.specs.declared.op.Answer.TheVariants.{Inserted, Exists}
-use Rattle.history.specs.History.{cross}
+use Rattle.history.specs.History.{cross, is_among}
 use Rattle.history.specs.Spans.{changed_span}
 use Rattle.history.specs.ListMachine.{Machine, Line, Open, Rolling, Acts, TellsAnswer, Saves, GoesBack, TellsBack, Steps, IsRun, with_txn, with_status, fresh}
 use Rattle.worked_runs.specs.Rows.{insert_a, insert_again, crossed_is_seen}
@@ -101,7 +100,7 @@ after_goes_back lines last h =
     let there : h.0 ≡ going_back = h.1.4
     ∙ ap (λ (k : List ℕ). record (with_txn once 2 (record (once.txns 2) { status = Rolling (Some 1) })) {
       h = cross
-          (λ n. not (list_any (λ j. j == n) k)) 2 once.h;
+          (λ n. not (is_among n k)) 2 once.h;
     }) (sym kept) in
     subst (λ m. Steps m lines last) there h.2
   where
