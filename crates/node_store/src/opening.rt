@@ -10,7 +10,7 @@ ghost use Rattle.node_laws.specs.Simulation.{NodeStandsFor};
 ghost use Rattle.node_store.specs.Opening.{IsFit, IsRefusedFor};
 
 use crate::judging::judge;
-use crate::unopened::{Cause, Unopened};
+use crate::unopened::Unopened;
 use dc_core::Dc;
 use logical_log::Found;
 use stable::{CrashLog, CrashPages};
@@ -44,22 +44,12 @@ where
 {
     let dc = match Dc::new(alloc, tree, pages) {
         Ok(dc) => dc,
-        Err(refusal) => {
-            return Err(Unopened {
-                cause: Cause::Refused(refusal),
-                log,
-            });
-        }
+        Err(refusal) => return Err(Unopened::refused(refusal, log)),
     };
     let found = judged(alloc, log)?;
     let tc = match Tc::over(alloc, found) {
         Ok(tc) => tc,
-        Err(left) => {
-            return Err(Unopened {
-                cause: Cause::Refused(left.refusal),
-                log: left.device,
-            });
-        }
+        Err(left) => return Err(Unopened::refused(left.refusal, left.device)),
     };
     tc.kept();
     Ok(World::over(alloc, tc, dc))
@@ -79,12 +69,7 @@ where
 {
     let found = match Found::read(alloc, log) {
         Ok(found) => found,
-        Err(left) => {
-            return Err(Unopened {
-                cause: Cause::Refused(left.refusal),
-                log: left.device,
-            });
-        }
+        Err(left) => return Err(Unopened::refused(left.refusal, left.device)),
     };
     match judge(alloc, found.frames()) {
         Ok(()) => Ok(found),

@@ -1,4 +1,6 @@
 //! Why a log isn't opened.
+ghost use Rattle.std.specs.Prelude.{◌≡◌};
+
 use record_key::Refusal;
 use thiserror::Error;
 
@@ -21,4 +23,16 @@ pub enum Cause {
 pub struct Unopened<D> {
     pub cause: Cause,
     pub log: D,
+}
+
+impl<D> Unopened<D> {
+    /// Neither a checkpoint nor an answer is why, but this refusal.
+    pub(crate) fn refused(refusal: Refusal, log: D) -> Unopened<D>
+        ensures { result ≡ record { cause = Cause.Refused refusal; log = log } }
+    {
+        Unopened {
+            cause: Cause::Refused(refusal),
+            log,
+        }
+    }
 }
