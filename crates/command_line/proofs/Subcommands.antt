@@ -16,7 +16,7 @@ use Rattle.clap.proofs.ValueTestLemmas.{accepts-Accepts}
 use Rattle.clap.proofs.OnLiterals.{clap_on_literals}
 use Rattle.command_line.proofs.Options.{HasOption, HasValue, IsKnown, IsRequest, both_none, level_has_value, level_may_have_value}
 use Rattle.command_line.specs.CommandLine.{at, command_line, counting, last, numbering, rounds, sessions}
-use Rattle.command_line.specs.Asked.{MayAsk, MayCount, NamesCount, most_number}
+use Rattle.command_line.specs.Asked.{MayAskFor, MayCount, NamesCount, most_number}
 
 -- ---- a call for help is never taken
 
@@ -203,20 +203,20 @@ enters true rows e = refl
 enters false rows e = absurd (cc e)
 
 pool_taken : (words : List Text) → level_fault pool_shape [] nothing_held words false [] ≡ []
-    → MayAsk (Some (rows_at pool_shape words))
+    → MayAskFor (Some (rows_at pool_shape words))
 pool_taken words e =
     let first = level_has_value sessions_rule pool_shape [] words false [] has_sessions refl (inl refl) e in
     let second = level_has_value rounds_rule pool_shape [] words false [] has_rounds refl (inr (inl refl)) e in
     inr (inl (refl, named 8 (codes "sessions") (codes "4") _ first, named 99 (codes "rounds") (codes "3") _ second))
 
 explain_taken : (words : List Text) → level_fault explain_shape [] nothing_held words false [] ≡ []
-    → MayAsk (Some (rows_at explain_shape words))
+    → MayAskFor (Some (rows_at explain_shape words))
 explain_taken words e =
     let given = level_may_have_value at_rule explain_shape [] words false [] has_at e in
     inr (inr (inl (refl, may_name (codes "at") _ given)))
 
 draw_taken : (words : List Text) → level_fault draw_shape [] nothing_held words false [] ≡ []
-    → MayAsk (Some (rows_at draw_shape words))
+    → MayAskFor (Some (rows_at draw_shape words))
 draw_taken words e =
     let given = level_may_have_value last_rule draw_shape [] words false [] has_last e in
     inr (inr (inr (refl, may_name (codes "last") _ given)))
@@ -238,7 +238,7 @@ chosen r q x d h = cond r (Some (shape_in 0 line.subs)) (cond q (Some pool_shape
     (cond x (Some explain_shape) (cond d (Some draw_shape) (cond h (Some (shape_in 4 line.subs)) None))))
 
 stop_taken : (stop : Option (Text × List Text)) → NoHelp stop → entered_fault line stop ≡ []
-    → is_some (entered line stop) ≡ true → MayAsk (entered line stop)
+    → is_some (entered line stop) ≡ true → MayAskFor (entered line stop)
 stop_taken None apart e some = absurd (cc some)
 stop_taken (Some p) apart e some =
     go (answers_to p.0 (codes "run", [])) (answers_to p.0 (codes "pool", [])) (answers_to p.0 (codes "explain", []))
@@ -247,7 +247,7 @@ stop_taken (Some p) apart e some =
     go : (r q x d h : Bool) → answers_to p.0 (codes "help", []) ≡ h
         → option_map_or (λ s. level_fault s [] nothing_held p.1 false []) (chosen r q x d h) [] ≡ []
         → is_some (option_map (λ s. rows_at s p.1) (chosen r q x d h)) ≡ true
-        → MayAsk (option_map (λ s. rows_at s p.1) (chosen r q x d h))
+        → MayAskFor (option_map (λ s. rows_at s p.1) (chosen r q x d h))
     go true q x d h asks e some = inl refl
     go false true x d h asks e some = pool_taken p.1 e
     go false false true d h asks e some = explain_taken p.1 e
@@ -256,7 +256,7 @@ stop_taken (Some p) apart e some =
     go false false false false false asks e some = absurd (cc some)
 
 -- words without a fault name a subcommand that is taken
-pub words_taken : (words : List Text) → fault_of command_line words ≡ [] → MayAsk (subcommand_of command_line words)
+pub words_taken : (words : List Text) → fault_of command_line words ≡ [] → MayAskFor (subcommand_of command_line words)
 words_taken words none =
     let given = argument_words line words in
     let end = walk line.top.rules (names_of line) nothing_held given in

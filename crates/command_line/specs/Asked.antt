@@ -22,26 +22,26 @@ abbrev pub MayCount : List Row → Text → Type 0
 MayCount rows option = (one_of option rows ≡ None) ⊎ NamesCount rows option most_number
 
 -- the words may ask for a script, run, explained or drawn, or for clients
-abbrev pub MayAsk : Option (Text × List Row) → Type 0
-MayAsk None = ⊥
-MayAsk (Some s) = (s.0 ≡ codes "run")
+abbrev pub MayAskFor : Option (Text × List Row) → Type 0
+MayAskFor None = ⊥
+MayAskFor (Some s) = (s.0 ≡ codes "run")
     ⊎ (((s.0 ≡ codes "pool") × NamesCount s.1 (codes "sessions") 8 × NamesCount s.1 (codes "rounds") 99)
     ⊎ (((s.0 ≡ codes "explain") × MayCount s.1 (codes "at")) ⊎ ((s.0 ≡ codes "draw") × MayCount s.1 (codes "last"))))
 
 -- it is this number
-pub record IsNumber (rows : List Row) (option : Text) (n : ℕ) : Type 0 where
+pub record IsGivenNumber (rows : List Row) (option : Text) (n : ℕ) : Type 0 where
   pub text : Text
   pub given : one_of option rows ≡ Some text
   pub number : n ≡ digits_value 10 (without_leading_plus text)
 
 -- and that lies in its range
 abbrev pub IsCount : List Row → Text → ℕ → ℕ → Type 0
-IsCount rows option most n = IsNumber rows option n × (1 ≤ n) × (n ≤ most)
+IsCount rows option most n = IsGivenNumber rows option n × (1 ≤ n) × (n ≤ most)
 
 -- it is none where it is left out, else the number in its range that is given
-abbrev pub IsGiven : List Row → Text → Option ℕ → Type 0
-IsGiven rows option None = one_of option rows ≡ None
-IsGiven rows option (Some n) = IsCount rows option most_number n
+abbrev pub IsGivenCount : List Row → Text → Option ℕ → Type 0
+IsGivenCount rows option None = one_of option rows ≡ None
+IsGivenCount rows option (Some n) = IsCount rows option most_number n
 
 -- whether the flag is set: given, or not, as by default
 pub record IsSet (rows : List Row) (flag : Text) (set : Bool) : Type 0 where
@@ -50,18 +50,18 @@ pub record IsSet (rows : List Row) (flag : Text) (set : Bool) : Type 0 where
   pub absent : one_of flag rows ≡ None → set ≡ false
 
 -- it is none where it is left out, else the text that is given
-abbrev pub IsNamed : List Row → Text → Option (Bor Text) → Type 0
-IsNamed rows option name = option_map (λ text. text.now) name ≡ first_of option rows
+abbrev pub IsGivenText : List Row → Text → Option (Bor Text) → Type 0
+IsGivenText rows option name = option_map (λ text. text.now) name ≡ first_of option rows
 
 -- the task is what they ask for
-abbrev pub Asks : Option (Text × List Row) → Task → Type 0
-Asks None t = ⊥
-Asks (Some s) (task.Run continues store) = (s.0 ≡ codes "run")
-    × IsSet s.1 (codes "continue") continues × IsNamed s.1 (codes "store") store
-Asks (Some s) (task.Pool sessions rounds) = (s.0 ≡ codes "pool")
+abbrev pub AsksFor : Option (Text × List Row) → Task → Type 0
+AsksFor None t = ⊥
+AsksFor (Some s) (task.Run continues store) = (s.0 ≡ codes "run")
+    × IsSet s.1 (codes "continue") continues × IsGivenText s.1 (codes "store") store
+AsksFor (Some s) (task.Pool sessions rounds) = (s.0 ≡ codes "pool")
     × IsCount s.1 (codes "sessions") 8 sessions × IsCount s.1 (codes "rounds") 99 rounds
-Asks (Some s) (task.Explain at) = (s.0 ≡ codes "explain") × IsGiven s.1 (codes "at") at
-Asks (Some s) (task.Draw last) = (s.0 ≡ codes "draw") × IsGiven s.1 (codes "last") last
+AsksFor (Some s) (task.Explain at) = (s.0 ≡ codes "explain") × IsGivenCount s.1 (codes "at") at
+AsksFor (Some s) (task.Draw last) = (s.0 ≡ codes "draw") × IsGivenCount s.1 (codes "last") last
 
 -- it is a script, or there is a client
 abbrev pub HasClient : Task → Type 0

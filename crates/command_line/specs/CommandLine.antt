@@ -28,9 +28,9 @@ sessions = counting (codes "sessions") 8 (codes "4")
 abbrev pub rounds : Rule
 rounds = counting (codes "rounds") 99 (codes "3")
 
--- a flag
-abbrev pub flag : Text → Rule
-flag name = record (new_rule name) { long = Some name; action = Some SetTrue }
+-- a flag_option
+abbrev pub flag_option : Text → Rule
+flag_option name = record (new_rule name) { long = Some name; action = Some SetTrue }
 
 -- an option that is a text with something in it, and may be left out
 abbrev pub naming : Text → Rule
@@ -42,7 +42,7 @@ naming name = record (new_rule name) {
 
 -- a script is run on behind a failure
 abbrev pub continuing : Rule
-continuing = flag (codes "continue")
+continuing = flag_option (codes "continue")
 
 -- the folder of the store that a script is run on
 abbrev pub storing : Rule

@@ -6,8 +6,8 @@ ghost use Rattle.clap.specs.Faults.{fault_of};
 ghost use Rattle.clap.specs.Matches.{found_of};
 ghost use Rattle.clap.specs.Simple.{app_of, shape_of, subcommand_of, subcommand_rows_of};
 ghost use Rattle.clap.specs.Walk.{rows_of, rule_of};
-ghost use Rattle.command_line.specs.Asked.{Asks, HasClient, IsGiven, IsNumber, MayAsk, MayCount, NamesCount};
-ghost use Rattle.command_line.specs.CommandLine.{IsLocal, command_line, counting, draw, explain, flag, naming, numbering, pool, run, subcommands};
+ghost use Rattle.command_line.specs.Asked.{AsksFor, HasClient, IsGivenCount, IsGivenNumber, MayAskFor, MayCount, NamesCount};
+ghost use Rattle.command_line.specs.CommandLine.{IsLocal, command_line, counting, draw, explain, flag_option, naming, numbering, pool, run, subcommands};
 
 use clap::builder::ValueParser;
 use clap::{Arg, ArgAction, ArgMatches, Command, Error};
@@ -129,7 +129,7 @@ const MOST_NUMBER: u64 = (1 << 48) - 1;
 /// What these words ask for, the first of them the program's name. Refused just where they have a fault or ask for
 /// help, with the kind of that, or where memory runs out.
 pub fn choose<'a, S: AsStr>(alloc: Global, words: &'a [S]) -> Result<Task<'a>, Error>
-    ensures task { IfOk result (Asks (subcommand_of command_line (map S.text words.now))) }
+    ensures task { IfOk result (AsksFor (subcommand_of command_line (map S.text words.now))) }
     ensures client { IfOk result HasClient }
     ensures fault { FailsBy (fault_of command_line (map S.text words.now)) result }
 {
@@ -141,8 +141,8 @@ pub fn choose<'a, S: AsStr>(alloc: Global, words: &'a [S]) -> Result<Task<'a>, E
 
 // What the words asked for that have these matches.
 fn task_of<'a>(matches: &ArgMatches<'a>) -> Task<'a>
-    requires { MayAsk (subcommand_rows_of matches.now) }
-    ensures asks { Asks (subcommand_rows_of matches.now) result }
+    requires { MayAskFor (subcommand_rows_of matches.now) }
+    ensures asks { AsksFor (subcommand_rows_of matches.now) result }
     ensures client { HasClient result }
 {
     if let Some(asked) = matches.subcommand_matches("pool") {
@@ -173,7 +173,7 @@ fn task_of<'a>(matches: &ArgMatches<'a>) -> Task<'a>
 // The number that an option is, by the words or by its default.
 fn number_of(asked: &ArgMatches<'_>, option: &str) -> u64
     requires { (most : ℕ) × NamesCount (rows_of (found_of asked.now)) option.now most }
-    ensures { IsNumber (rows_of (found_of asked.now)) option.now result }
+    ensures { IsGivenNumber (rows_of (found_of asked.now)) option.now result }
 {
     match asked.get_one(option) {
         Some(number) => number,
@@ -184,7 +184,7 @@ fn number_of(asked: &ArgMatches<'_>, option: &str) -> u64
 // The number that an option is, where the words give it.
 fn number_if(asked: &ArgMatches<'_>, option: &str) -> Option<u64>
     requires { MayCount (rows_of (found_of asked.now)) option.now }
-    ensures { IsGiven (rows_of (found_of asked.now)) option.now result }
+    ensures { IsGivenCount (rows_of (found_of asked.now)) option.now result }
 {
     match asked.get_one(option) {
         Some(number) => Some(number),
@@ -226,7 +226,7 @@ fn run_command<'a>(alloc: Global) -> Result<Command<'a>, AllocError>
     Command::new(alloc, "run")
         .about("Reads a script from standard input and prints what its lines came to")
         .after_help(LINES)
-        .arg(flag(alloc, "continue").help(CONTINUING))?
+        .arg(flag_option(alloc, "continue").help(CONTINUING))?
         .arg(naming(alloc, "store", "FOLDER").help(STORING))
 }
 
@@ -266,10 +266,10 @@ fn draw_command<'a>(alloc: Global) -> Result<Command<'a>, AllocError>
         .arg(last)
 }
 
-// A flag.
-fn flag<'a>(alloc: Global, name: &'a str) -> Arg<'a>
+// A flag_option.
+fn flag_option<'a>(alloc: Global, name: &'a str) -> Arg<'a>
     ensures global { result.global ≡ false }
-    ensures rule { rule_of result ≡ flag name.entry.now }
+    ensures rule { rule_of result ≡ flag_option name.entry.now }
 {
     Arg::new(alloc, name).long(name).action(ArgAction::SetTrue)
 }

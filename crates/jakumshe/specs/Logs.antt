@@ -14,7 +14,7 @@ use Rattle.node_store.specs.Opening.{IsRefusedFor}
 use Rattle.record_key.specs.declared.refusal.Refusal.{Refusal}
 use Rattle.jakumshe.specs.declared.fault.Fault.{Fault}
 use Rattle.jakumshe.specs.declared.fault.Fault.TheVariants.{Refused}
-use Rattle.jakumshe.specs.Calls.{Rests, Stops}
+use Rattle.jakumshe.specs.Calls.{ComesToRest, StopsSettling}
 use Rattle.jakumshe.specs.Statuses.{fault_of}
 
 -- the bytes of the log that are stable
@@ -37,14 +37,14 @@ pub record IsOpenedOn (bytes : List ℕ) (kept : ℕ) (new : NodeView) : Type 0 
   pub is_made : IsMadeOn bytes made
   pub counted : kept ≡ length (stable_bytes made)
   pub told : List Out
-  pub rests : Rests made told new
+  pub rests : ComesToRest made told new
 
 -- one that couldn't
 pub record IsStoppedOn (bytes : List ℕ) (r : Refusal) : Type 0 where
   pub made : NodeView
   pub is_made : IsMadeOn bytes made
   pub new : NodeView
-  pub stops : Stops made r new
+  pub stops : StopsSettling made r new
 
 -- why none is opened on these bytes
 abbrev pub NotOpened : List ℕ → Fault → Type 0

@@ -6,8 +6,8 @@ use Rattle.jakumshe.specs.declared.records.ValueBytes.{ValueBytes}
 use Rattle.jakumshe.specs.declared.records.RowBytes.{RowBytes}
 
 -- these bytes are the value's
-abbrev pub Holds : ValueBytes → List ℕ → Type 0
-Holds b value = (b.length ≡ length value) × (take (length value) b.bytes ≡ value)
+abbrev pub HoldsValue : ValueBytes → List ℕ → Type 0
+HoldsValue b value = (b.length ≡ length value) × (take (length value) b.bytes ≡ value)
 
 abbrev pub HoldsRow : RowBytes → List ℕ → List ℕ → Type 0
 HoldsRow b key value =
@@ -16,7 +16,7 @@ HoldsRow b key value =
 
 -- there is the value that was found, or what was there before
 abbrev pub PutsValue : Result (List ℕ) Fault → ValueBytes → ValueBytes → Type 0
-PutsValue (Ok value) before after = Holds after value
+PutsValue (Ok value) before after = HoldsValue after value
 PutsValue (Err fault) before after = after ≡ before
 
 -- the first ones hold these rows
@@ -26,12 +26,12 @@ HoldRows [] (row ∷ rows) = ⊥
 HoldRows (b ∷ bs) (row ∷ rows) = HoldsRow b row.0 row.1 × HoldRows bs rows
 
 -- of rows that are kept the last one first, so many next ones are given
-pub record IsGiven (before after : List Row) (room : List RowBytes) (count : ℕ) : Type 0 where
+pub record GivesRows (before after : List Row) (room : List RowBytes) (count : ℕ) : Type 0 where
   pub rows : List Row
   pub next : reverse before ≡ rows ++ reverse after
   pub held : HoldRows room rows
   pub counted : count ≡ length rows
 
 -- as many as there is room for, or all
-abbrev pub IsPage : List Row → List Row → List RowBytes → ℕ → Type 0
-IsPage before after room count = IsGiven before after room count × ((count ≡ length room) ⊎ (after ≡ []))
+abbrev pub IsPageOfRows : List Row → List Row → List RowBytes → ℕ → Type 0
+IsPageOfRows before after room count = GivesRows before after room count × ((count ≡ length room) ⊎ (after ≡ []))

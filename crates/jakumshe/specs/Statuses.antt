@@ -26,6 +26,6 @@ fault_of (why.Checkpoint n) = Checkpoint
 fault_of (why.WrongAnswer n) = WrongAnswer
 
 -- the status of a call that ends so
-abbrev pub Ends : {X : Type 0} → ℤ → Result X Fault → Type 0
-Ends given (Ok x) = given ≡ pos 0
-Ends given (Err fault) = given ≡ pos (status fault)
+abbrev pub EndsWithStatus : {X : Type 0} → ℤ → Result X Fault → Type 0
+EndsWithStatus given (Ok x) = given ≡ pos 0
+EndsWithStatus given (Err fault) = given ≡ pos (status fault)

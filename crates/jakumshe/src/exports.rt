@@ -4,10 +4,10 @@ ghost use Rattle.std.specs.Prelude.{◌≡◌, ◌≢◌, ◌<◌, ◌≤◌, le
 ghost use Rattle.record_key.specs.declared.op.Op.TheVariants as op;
 ghost use Rattle.node_laws.specs.declared.event.Event.TheVariants as event;
 ghost use Rattle.jakumshe.specs.declared.fault.Fault.TheVariants.{Refused};
-ghost use Rattle.jakumshe.specs.Calls.{IsNew, NotMade, Makes, Tells, Reads, EndsSo, Puts, begins, saves, finds, goes_back, rolls_back, commits, end_of};
+ghost use Rattle.jakumshe.specs.Calls.{IsNew, NotMade, Makes, Tells, Reads, EndsSo, PutsResult, begins, saves, finds, goes_back, rolls_back, commits, end_of};
 ghost use Rattle.jakumshe.specs.Handles.{Acted};
 ghost use Rattle.jakumshe.specs.Holding.{OnNode, RefusedAs};
-ghost use Rattle.jakumshe.specs.Records.{IsPage, PutsValue};
+ghost use Rattle.jakumshe.specs.Records.{IsPageOfRows, PutsValue};
 ghost use Rattle.jakumshe.specs.Statuses.{status};
 
 use crate::fault::{DONE, Fault, name_of, status_of};
@@ -60,7 +60,7 @@ pub extern "C" fn jakumshe_raw_close(handle: &mut Handle, alloc: Global) -> i32
 #[unsafe(no_mangle)]
 pub extern "C" fn jakumshe_raw_begin(handle: &mut Handle, alloc: Global, txn: &mut u64) -> i32
     ensures begun { OnNode handle.old.node handle.new.node result (λ old new. EndsSo result (λ r.
-        Makes old.world event.Begin begins r new.world × Puts r txn.old txn.new × (new.rows ≡ old.rows))) }
+        Makes old.world event.Begin begins r new.world × PutsResult r txn.old txn.new × (new.rows ≡ old.rows))) }
     ensures closed { handle.old.node ≡ None → txn.new ≡ txn.old }
 {
     let mut node = match handle.take(alloc) {
@@ -78,7 +78,7 @@ pub extern "C" fn jakumshe_raw_begin(handle: &mut Handle, alloc: Global, txn: &m
     }
 }
 
-/// Puts a record where there is none. Refused EmptyKey, TooLong, NotOpen, Busy, Exists.
+/// PutsResult a record where there is none. Refused EmptyKey, TooLong, NotOpen, Busy, Exists.
 #[unsafe(no_mangle)]
 pub extern "C" fn jakumshe_raw_insert(
     handle: &mut Handle,
@@ -116,7 +116,7 @@ pub extern "C" fn jakumshe_raw_update(
     perform(handle, alloc, txn, ops::update(key, value))
 }
 
-/// Puts the record, whether there is one or not. Refused EmptyKey, TooLong, NotOpen, Busy.
+/// PutsResult the record, whether there is one or not. Refused EmptyKey, TooLong, NotOpen, Busy.
 #[unsafe(no_mangle)]
 pub extern "C" fn jakumshe_raw_upsert(
     handle: &mut Handle,
@@ -232,7 +232,7 @@ pub extern "C" fn jakumshe_raw_scan(
     ensures read { 0 < length low.now → length low.now ≤ 32 → length high.now ≤ 32
         → OnNode handle.old.node handle.new.node result (λ old new. EndsSo result (λ r.
         Reads old.world txn low.now (end_of high.now) old.rows.items new.rows.items r new.world
-        × Puts r count.old count.new)) }
+        × PutsResult r count.old count.new)) }
     ensures empty_key { length low.now ≡ 0 → RefusedAs 11 handle.old.node handle.new.node result }
     ensures long_key { 32 < length low.now → RefusedAs 12 handle.old.node handle.new.node result }
     ensures long_end { 0 < length low.now → 32 < length high.now
@@ -263,7 +263,7 @@ pub extern "C" fn jakumshe_raw_page(
     count: &mut usize,
 ) -> i32
     ensures given { OnNode handle.old.node handle.new.node result (λ old new. (result ≡ pos 0)
-        × IsPage old.rows.items new.rows.items rows.new count.new × (new.world ≡ old.world)) }
+        × IsPageOfRows old.rows.items new.rows.items rows.new count.new × (new.world ≡ old.world)) }
     ensures closed { handle.old.node ≡ None → (rows.new ≡ rows.old) × (count.new ≡ count.old) }
 {
     let mut node = match handle.take(alloc) {
@@ -284,7 +284,7 @@ pub extern "C" fn jakumshe_raw_save(
     savepoint: &mut u64,
 ) -> i32
     ensures saved { OnNode handle.old.node handle.new.node result (λ old new. EndsSo result (λ r.
-        Makes old.world (event.Save txn) saves r new.world × Puts r savepoint.old savepoint.new
+        Makes old.world (event.Save txn) saves r new.world × PutsResult r savepoint.old savepoint.new
         × (new.rows ≡ old.rows))) }
     ensures closed { handle.old.node ≡ None → savepoint.new ≡ savepoint.old }
 {

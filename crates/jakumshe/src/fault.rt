@@ -1,6 +1,6 @@
 //! How a call ends.
 ghost use Rattle.std.specs.Prelude.{◌≡◌, pos, OnOk, IfErr};
-ghost use Rattle.jakumshe.specs.Statuses.{status, fault_of, Ends};
+ghost use Rattle.jakumshe.specs.Statuses.{status, fault_of, EndsWithStatus};
 ghost use Rattle.jakumshe.specs.declared.fault.Fault.TheVariants.{Refused};
 
 use node_store::Cause;
@@ -76,7 +76,7 @@ pub fn fault_of(cause: Cause) -> Fault
 
 /// The status of a call that gives nothing but how it ended.
 pub fn status_of(ended: Result<(), Fault>) -> i32
-    ensures status { Ends result ended }
+    ensures status { EndsWithStatus result ended }
     ensures done { OnOk ended (result ≡ pos 0) }
     ensures fault { IfErr ended (λ fault. result ≡ pos (status fault)) }
 {

@@ -4,9 +4,9 @@ ghost use Rattle.record_key.specs.declared.refusal.Refusal.TheVariants.{EmptyKey
 ghost use Rattle.node_laws.specs.declared.event.Event.TheVariants as event;
 ghost use Rattle.node_laws.specs.Rounds.{IsDone};
 ghost use Rattle.jakumshe.specs.declared.fault.Fault.TheVariants.{Refused};
-ghost use Rattle.jakumshe.specs.Calls.{Rests, Stops, IsStepped, IsTold, IsNew, NotNew, Refuses, Fails, Makes, Tells, Acts, Reads, begins, saves, finds, goes_back, rolls_back, commits, end_of};
+ghost use Rattle.jakumshe.specs.Calls.{ComesToRest, StopsSettling, IsStepped, IsTold, IsNew, NotNew, RefusesEvent, Fails, Makes, Tells, Operates, Reads, begins, saves, finds, goes_back, rolls_back, commits, end_of};
 ghost use Rattle.jakumshe.specs.Logs.{IsMadeOn, IsOpenedOn, NotOpened, Copies, stable_bytes};
-ghost use Rattle.jakumshe.specs.Records.{IsPage};
+ghost use Rattle.jakumshe.specs.Records.{IsPageOfRows};
 ghost use Rattle.node_store.specs.Opening.{IsRefusedFor};
 
 use crate::fault::{Fault, fault_of};
@@ -96,7 +96,7 @@ impl Node {
 
     /// Does the operation, and tends a leaf after it.
     pub fn act(&mut self, txn: u64, op: Op) -> Result<(), Fault>
-        ensures acted { Acts self.old.world txn op result self.new.world }
+        ensures acted { Operates self.old.world txn op result self.new.world }
         ensures rows { self.new.rows ≡ self.old.rows }
     {
         let told = match self.call(&Event::Act { txn, op }) {
@@ -162,7 +162,7 @@ impl Node {
     /// Puts the next rows of those that were read last, as many as there is room for. Gives how many.
     pub fn page(&mut self, room: &mut [RowBytes]) -> usize
         ensures world { self.new.world ≡ self.old.world }
-        ensures page { IsPage self.old.rows.items self.new.rows.items room.new result }
+        ensures page { IsPageOfRows self.old.rows.items self.new.rows.items room.new result }
     {
         let mut count = 0;
         while count < room.len() {
@@ -236,7 +236,7 @@ impl Node {
     fn step(&mut self, event: &Event) -> Result<Out, Refusal>
         ensures stepped { IfOk result (λ out. IsStepped self.old.world event.now out self.new.world) }
         ensures done { IfOk result IsDone }
-        ensures refused { IfErr result (λ refusal. Refuses self.old.world event.now refusal self.new.world) }
+        ensures refused { IfErr result (λ refusal. RefusesEvent self.old.world event.now refusal self.new.world) }
         ensures rows { self.new.rows ≡ self.old.rows }
     {
         match self.settled() {
@@ -251,8 +251,8 @@ impl Node {
 
     /// All that the node tells until it is settled.
     fn settled(&mut self) -> Result<Vec<Out>, Refusal>
-        ensures rests { IfOk result (λ told. Rests self.old.world told.items self.new.world) }
-        ensures stops { IfErr result (λ refusal. Stops self.old.world refusal self.new.world) }
+        ensures rests { IfOk result (λ told. ComesToRest self.old.world told.items self.new.world) }
+        ensures stops { IfErr result (λ refusal. StopsSettling self.old.world refusal self.new.world) }
         ensures rows { self.new.rows ≡ self.old.rows }
     {
         let mut told = Vec::new(self.alloc);

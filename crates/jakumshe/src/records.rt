@@ -1,5 +1,5 @@
 //! What C is given of keys, values and names: bytes of a fixed room, each with how many of them there are.
-ghost use Rattle.jakumshe.specs.Records.{Holds, HoldsRow};
+ghost use Rattle.jakumshe.specs.Records.{HoldsValue, HoldsRow};
 
 use log_blocks::HEAD_LEN;
 use record_key::{Key, Value};
@@ -16,7 +16,7 @@ pub struct ValueBytes {
 
 impl ValueBytes {
     pub(crate) fn put(&mut self, value: &Value)
-        ensures { Holds self.new value.now }
+        ensures { HoldsValue self.new value.now }
     {
         let bytes = value.as_bytes();
         self.length = bytes.len() as u8;

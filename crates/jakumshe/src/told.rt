@@ -1,6 +1,6 @@
 //! How a call ends, by the first line that tells of it among all that a node tells while it settles.
 ghost use Rattle.std.specs.Prelude.{◌≡◌, ◌∷◌, [], true, false, Some, None, Ok, Err, IfOk, IfErr};
-ghost use Rattle.jakumshe.specs.Calls.{first_of, ended_by, begins, saves, answers, finds, lists, goes_back, rolls_back, commits};
+ghost use Rattle.jakumshe.specs.Calls.{first_end, ended_by, begins, saves, answers, finds, lists, goes_back, rolls_back, commits};
 
 use crate::fault::Fault;
 use codec::Rows;
@@ -9,7 +9,7 @@ use world::Out;
 
 /// The number of a transaction that has begun.
 pub fn begun(out: &Out) -> Result<u64, Fault>
-    ensures { result ≡ first_of begins (out.now ∷ []) }
+    ensures { result ≡ first_end begins (out.now ∷ []) }
 {
     match out {
         Out::Begun(txn) => Ok(*txn),
@@ -19,7 +19,7 @@ pub fn begun(out: &Out) -> Result<u64, Fault>
 
 /// The number of a savepoint that was set.
 pub fn saved(out: &Out) -> Result<u64, Fault>
-    ensures { result ≡ first_of saves (out.now ∷ []) }
+    ensures { result ≡ first_end saves (out.now ∷ []) }
 {
     match out {
         Out::Saved(savepoint) => Ok(*savepoint),
@@ -29,7 +29,7 @@ pub fn saved(out: &Out) -> Result<u64, Fault>
 
 /// How the transaction's operation was answered.
 pub fn answer(told: &[Out], txn: u64) -> Result<(), Fault>
-    ensures { result ≡ first_of (answers txn) told.now }
+    ensures { result ≡ first_end (answers txn) told.now }
 {
     for out in told {
         if let Out::Answered { txn: whose, answer } = out {
@@ -54,7 +54,7 @@ fn ended(answer: &Answer) -> Result<(), Fault>
 
 /// The value that the transaction has read, if there is a record.
 pub fn value(told: &[Out], txn: u64) -> Result<Value, Fault>
-    ensures { result ≡ first_of (finds txn) told.now }
+    ensures { result ≡ first_end (finds txn) told.now }
 {
     for out in told {
         if let Out::Row { txn: whose, value } = out {
@@ -71,8 +71,8 @@ pub fn value(told: &[Out], txn: u64) -> Result<Value, Fault>
 
 /// The rows that the transaction has read.
 pub fn rows(told: &[Out], txn: u64) -> Result<&Rows, Fault>
-    ensures found { IfOk result (λ rows. first_of (lists txn) told.now ≡ Ok rows.now) }
-    ensures none { IfErr result (λ fault. first_of (lists txn) told.now ≡ Err fault) }
+    ensures found { IfOk result (λ rows. first_end (lists txn) told.now ≡ Ok rows.now) }
+    ensures none { IfErr result (λ fault. first_end (lists txn) told.now ≡ Err fault) }
 {
     for out in told {
         if let Out::Rows { txn: whose, rows } = out {
@@ -86,7 +86,7 @@ pub fn rows(told: &[Out], txn: u64) -> Result<&Rows, Fault>
 
 /// The transaction is back at its savepoint.
 pub fn back(told: &[Out], txn: u64, savepoint: u64) -> Result<(), Fault>
-    ensures { result ≡ first_of (goes_back txn savepoint) told.now }
+    ensures { result ≡ first_end (goes_back txn savepoint) told.now }
 {
     for out in told {
         if let Out::Back {
@@ -104,7 +104,7 @@ pub fn back(told: &[Out], txn: u64, savepoint: u64) -> Result<(), Fault>
 
 /// The transaction is rolled back.
 pub fn rolled_back(told: &[Out], txn: u64) -> Result<(), Fault>
-    ensures { result ≡ first_of (rolls_back txn) told.now }
+    ensures { result ≡ first_end (rolls_back txn) told.now }
 {
     for out in told {
         if let Out::RolledBack(whose) = out {
@@ -118,7 +118,7 @@ pub fn rolled_back(told: &[Out], txn: u64) -> Result<(), Fault>
 
 /// The transaction has committed.
 pub fn committed(told: &[Out], txn: u64) -> Result<(), Fault>
-    ensures { result ≡ first_of (commits txn) told.now }
+    ensures { result ≡ first_end (commits txn) told.now }
 {
     for out in told {
         if has_committed(out, txn) {

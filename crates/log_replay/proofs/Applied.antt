@@ -9,7 +9,7 @@ use Rattle.record_key.specs.declared.op.Op.{Op}
 use Rattle.record_key.specs.Laws.{key_cmp}
 use Rattle.record_key.specs.Table.{Bytes, key_of, value_after}
 use Rattle.history.specs.Values.{is_on, value_with}
-use Rattle.log_replay.specs.Kept.{value_in, Puts}
+use Rattle.log_replay.specs.Kept.{value_held, PutsAt}
 
 -- which of two keys comes first makes no difference to whether they are one
 turned : (a b : Bytes) → eq_by_cmp key_cmp a b ≡ eq_by_cmp key_cmp b a
@@ -24,10 +24,10 @@ where_so b v w x h = elim b as (λ c. (c ≡ true → v ≡ w) → cond c v x �
     [ true ↦ λ same. same refl | false ↦ λ same. refl ] h
 
 pub applied : (old new : BTreeMap Bytes Bytes) (o : Op) (key : Bytes) (v : Option Bytes) → key ≡ key_of o
-    → v ≡ value_after o (value_in old key)
-    → Puts old new key v
-    → (k : Bytes) → value_in new k ≡ value_with k (Some o) (value_in old k)
+    → v ≡ value_after o (value_held old key)
+    → PutsAt old new key v
+    → (k : Bytes) → value_held new k ≡ value_with k (Some o) (value_held old k)
 applied old new o key v own left put k =
-    put k ∙ ap (λ b. cond b v (value_in old k)) (turned key k ∙ ap (eq_by_cmp key_cmp k) own)
-    ∙ where_so (is_on k o) v _ (value_in old k)
-    (λ on. left ∙ ap (λ q. value_after o (value_in old q)) (own ∙ sym (same_key k (key_of o) on)))
+    put k ∙ ap (λ b. cond b v (value_held old k)) (turned key k ∙ ap (eq_by_cmp key_cmp k) own)
+    ∙ where_so (is_on k o) v _ (value_held old k)
+    (λ on. left ∙ ap (λ q. value_after o (value_held old q)) (own ∙ sym (same_key k (key_of o) on)))

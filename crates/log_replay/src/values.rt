@@ -4,7 +4,7 @@ ghost use Rattle.std.specs.BTreeMap.{IsUnchanged};
 ghost use Rattle.record_key.specs.Table.{key_of, answer_at as answer_to};
 ghost use Rattle.history.specs.Log.{request_of};
 ghost use Rattle.history.specs.Values.{value_with};
-ghost use Rattle.log_replay.specs.Kept.{value_in, answer_where, Puts};
+ghost use Rattle.log_replay.specs.Kept.{value_held, answer_where, PutsAt};
 
 use crate::effects::{answer_at, request, value_after};
 use history::Record;
@@ -16,7 +16,7 @@ use std::collections::BTreeMap;
 pub fn follow(values: &mut BTreeMap<Key, Value>, next: &Record) -> Result<Option<Answer>, Refusal>
     ensures answer { IfOk result (λ answer. answer ≡ answer_where values.old (request_of next.now)) }
     ensures followed { OnOk result ((k : List ℕ) →
-        value_in values.new k ≡ value_with k (request_of next.now) (value_in values.old k)) }
+        value_held values.new k ≡ value_with k (request_of next.now) (value_held values.old k)) }
     ensures refused { IfErr result (λ refusal. refusal ≡ Refusal.NoMemory) }
     ensures unchanged { OnErr result (IsUnchanged values.old values.new) }
 {
@@ -28,9 +28,9 @@ pub fn follow(values: &mut BTreeMap<Key, Value>, next: &Record) -> Result<Option
 
 /// Does the operation, and answers it. Refused NoMemory, and unchanged then.
 fn apply(values: &mut BTreeMap<Key, Value>, op: &Op) -> Result<Answer, Refusal>
-    ensures answer { IfOk result (λ answer. answer ≡ answer_to op.now (value_in values.old (key_of op.now))) }
+    ensures answer { IfOk result (λ answer. answer ≡ answer_to op.now (value_held values.old (key_of op.now))) }
     ensures applied { OnOk result ((k : List ℕ) →
-        value_in values.new k ≡ value_with k (Some op.now) (value_in values.old k)) }
+        value_held values.new k ≡ value_with k (Some op.now) (value_held values.old k)) }
     ensures refused { IfErr result (λ refusal. refusal ≡ Refusal.NoMemory) }
     ensures unchanged { OnErr result (IsUnchanged values.old values.new) }
 {
@@ -40,9 +40,9 @@ fn apply(values: &mut BTreeMap<Key, Value>, op: &Op) -> Result<Answer, Refusal>
     Ok(answer)
 }
 
-/// Puts this at the key. Refused NoMemory, and unchanged then.
+/// PutsAt this at the key. Refused NoMemory, and unchanged then.
 fn put(values: &mut BTreeMap<Key, Value>, key: &Key, value: Option<Value>) -> Result<(), Refusal>
-    ensures put { OnOk result (Puts values.old values.new key.now value) }
+    ensures put { OnOk result (PutsAt values.old values.new key.now value) }
     ensures refused { IfErr result (λ refusal. refusal ≡ Refusal.NoMemory) }
     ensures unchanged { OnErr result (IsUnchanged values.old values.new) }
 {
@@ -59,7 +59,7 @@ fn put(values: &mut BTreeMap<Key, Value>, key: &Key, value: Option<Value>) -> Re
 
 /// A copy of the value at the key.
 fn value_at(values: &BTreeMap<Key, Value>, key: &Key) -> Option<Value>
-    ensures { result ≡ value_in values.now key.now }
+    ensures { result ≡ value_held values.now key.now }
 {
     match values.get(key) {
         Some(value) => Some(value.copied()),

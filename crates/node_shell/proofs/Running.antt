@@ -6,7 +6,7 @@ use Rattle.record_key.specs.declared.refusal.Refusal.{Refusal}
 use Rattle.record_key.specs.declared.refusal.Refusal.TheVariants as refusal
 use Rattle.node_laws.specs.Node.{NodeView, fresh_node}
 use Rattle.node_shell.specs.declared.line_result.LineResult.{LineResult}
-use Rattle.node_shell.specs.Labels.{AreSame, Bindings, unbound}
+use Rattle.node_shell.specs.Labels.{AreSameBindings, Bindings, unbound}
 use Rattle.node_shell.specs.Script.{Command, onto, first_fault, commands_of, lines_from}
 use Rattle.node_shell.specs.Printed.{IsCut, refusal_line}
 use Rattle.node_shell.specs.Text.{ComesTo, Runs, goes_on, fails, is_cut, done, has_failed, status_after, result_text, WritesLine, WritesRun, WritesAlone, WritesText, WritesTextFrom, IsAlone, IsAllOf, IsCheckedFrom, IsTextAfterCheck, IsTextFrom, IsTextOf, IsUnread}
@@ -166,7 +166,7 @@ ran continues view labels given old new script status all ok h =
 
 -- on a new node
 pub on_new : (continues : Bool) (labels : Bindings) (given old new : Option (List ℕ)) (status : ℕ)
-    → AreSame unbound labels → WritesTextFrom continues fresh_node labels given old new status
+    → AreSameBindings unbound labels → WritesTextFrom continues fresh_node labels given old new status
     → WritesText continues given old new status
 on_new continues labels given old new status same h =
     record { text = h.text; appended = h.appended; is_text = told h.is_text }

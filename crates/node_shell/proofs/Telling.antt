@@ -18,7 +18,7 @@ use Rattle.node_shell.specs.declared.line_result.LineResult.{LineResult}
 use Rattle.node_shell.specs.declared.line_result.LineResult.TheVariants as came
 use Rattle.node_shell.specs.Labels.{Bindings}
 use Rattle.node_shell.specs.Script.{Command, begins, writes, adds, gets, scans, calls, treats, steps, settles, tables, shows}
-use Rattle.node_shell.specs.Text.{ComesTo, StepsUnless, Runs, goes_on, fails, is_cut, done, lines_if, lines_unless, client_lines, run_lines, op_written, length_fault, keys_fault, event_of, leaf_event, IsLedRun, IsToldRun}
+use Rattle.node_shell.specs.Text.{ComesTo, StepsUnless, Runs, goes_on, fails, is_cut, done, lines_if, lines_unless, client_lines, run_lines, op_written, length_fault, keys_fault, event_called, leaf_event, IsLedRun, IsToldRun}
 
 -- whatever machine the node stood for, these lines lead from it to one that the node stands for then
 abbrev LeadsBy : NodeView → List Line → NodeView → Type 0
@@ -79,7 +79,7 @@ line_leads (scans label low high) old labels (came.Event o) new next h =
     unless_leads (keys_fault low high) old new (event.Scan (labels label) low high) o h.0
 line_leads (scans label low high) old labels _ new next h = absurd h.0
 line_leads (calls label c) old labels (came.Event o) new next h =
-    step_leads old new (event_of c (labels label)) o h.0
+    step_leads old new (event_called c (labels label)) o h.0
 line_leads (calls label c) old labels _ new next h = absurd h.0
 line_leads (treats c key) old labels (came.Event o) new next h =
     unless_leads (keys_fault key None) old new (leaf_event c key) o h.0

@@ -14,11 +14,11 @@ abbrev pub unbound : Bindings
 unbound label = 0
 
 -- what the labels of a shell stand for
-abbrev pub number_in : Labels → Bindings
-number_in labels label = unwrap_or (get (slice_cmp nat_cmp) labels.numbers label) 0
+abbrev pub bound_number : Labels → Bindings
+bound_number labels label = unwrap_or (get (slice_cmp nat_cmp) labels.numbers label) 0
 
-abbrev pub AreSame : Bindings → Bindings → Type 0
-AreSame old new = (label : List ℕ) → new label ≡ old label
+abbrev pub AreSameBindings : Bindings → Bindings → Type 0
+AreSameBindings old new = (label : List ℕ) → new label ≡ old label
 
 -- a label is bound to a number, and no other changes
 pub record IsBound (old new : Bindings) (label : List ℕ) (number : ℕ) : Type 0 where

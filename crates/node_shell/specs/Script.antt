@@ -20,7 +20,7 @@ use Rattle.node_shell.specs.declared.line.Written.{Written}
 use Rattle.node_shell.specs.declared.line.Written.TheVariants as written
 use Rattle.node_shell.specs.declared.line.Line.{Line}
 use Rattle.node_shell.specs.declared.line.Line.TheVariants as line
-use Rattle.node_shell.specs.Words.{words_of, label_in, text_in, value_in, end_in, number_in, amount_in}
+use Rattle.node_shell.specs.Words.{words_of, label_in, text_in, value_written, end_in, number_in, amount_written}
 
 -- what stands between the ends of lines, which are byte 10. A last end leaves an empty line, which is skipped
 abbrev pub lines_from : List ℕ → List (List ℕ)
@@ -96,9 +96,9 @@ leaf_call_named name =
     else (if bytes_eq name (codes "flush") then Some leaf_call.Flush else None))
 
 -- a line of two words, the second the key of a leaf
-abbrev pub with_leaf : List ℕ → Option (List ℕ) → Option Command
-with_leaf name None = None
-with_leaf name (Some key) = option_map (λ c. treats c key) (leaf_call_named name)
+abbrev pub treating_leaf : List ℕ → Option (List ℕ) → Option Command
+treating_leaf name None = None
+treating_leaf name (Some key) = option_map (λ c. treats c key) (leaf_call_named name)
 
 -- the component that a word names
 abbrev pub component_in : List ℕ → Option Component
@@ -125,26 +125,26 @@ device_in word =
     else (if bytes_eq word (codes "pages") then Some device.Pages else None))
 
 -- the device's call of this number from now fails
-abbrev pub failure_of : Device → ℕ → Event
-failure_of device.TcLog call = event.FailTc call
-failure_of device.DcLog call = event.FailDc of_dc.Log call
-failure_of device.Pages call = event.FailDc of_dc.Pages call
+abbrev pub failing_call : Device → ℕ → Event
+failing_call device.TcLog call = event.FailTc call
+failing_call device.DcLog call = event.FailDc of_dc.Log call
+failing_call device.Pages call = event.FailDc of_dc.Pages call
 
 -- a line of three words, a device and the number of one of its calls, from 1, behind its name
 abbrev pub with_device : List ℕ → Option Device → Option ℕ → Option Command
 with_device name None call = None
 with_device name (Some d) None = None
 with_device name (Some d) (Some call) =
-    if bytes_eq name (codes "fail") && nat_le 1 call then Some (steps (failure_of d call)) else None
+    if bytes_eq name (codes "fail") && nat_le 1 call then Some (steps (failing_call d call)) else None
 
 -- a line of two words, the second a component
 abbrev pub with_component : List ℕ → Option Component → Option Command
 with_component name None = None
 with_component name (Some c) = if bytes_eq name (codes "restart") then Some (steps (restart_of c)) else None
 
-abbrev pub first_of : Option Command → Option Command → Option Command
-first_of None second = second
-first_of (Some command) second = Some command
+abbrev pub first_command : Option Command → Option Command → Option Command
+first_command None second = second
+first_command (Some command) second = Some command
 
 -- a line of three words, a label and a key behind its name
 abbrev pub with_key : List ℕ → Option (List ℕ) → Option (List ℕ) → Option Command
@@ -196,14 +196,14 @@ crash_in (Some c) (Some frames) (Some bytes) = Some (steps (crash_of c frames by
 -- a line of two words that has no label
 abbrev pub unlabelled : List ℕ → List ℕ → Option Command
 unlabelled name word =
-    first_of (with_number name (number_in word))
-    (first_of (with_leaf name (text_in word)) (with_component name (component_in word)))
+    first_command (with_number name (number_in word))
+    (first_command (treating_leaf name (text_in word)) (with_component name (component_in word)))
 
 -- a line of three words
 abbrev pub of_three : List ℕ → List ℕ → List ℕ → Option Command
 of_three name first second =
-    first_of (with_key name (label_in first) (text_in second))
-    (first_of (with_savepoint name (label_in first) (number_in second))
+    first_command (with_key name (label_in first) (text_in second))
+    (first_command (with_savepoint name (label_in first) (number_in second))
     (with_device name (device_in first) (number_in second)))
 
 -- a line of four words
@@ -211,13 +211,13 @@ abbrev pub of_four : List ℕ → List ℕ → List ℕ → List ℕ → Option 
 of_four name first second last =
     if bytes_eq name (codes "scan") then scan_of (label_in first) (text_in second) (end_in last)
     else (if bytes_eq name (codes "crash") then crash_in (component_in first) (number_in second) (number_in last)
-    else (if bytes_eq name (codes "add") then add_of (label_in first) (text_in second) (amount_in last)
-    else write_of (kind_with_value name) (label_in first) (text_in second) (value_in last)))
+    else (if bytes_eq name (codes "add") then add_of (label_in first) (text_in second) (amount_written last)
+    else write_of (kind_with_value name) (label_in first) (text_in second) (value_written last)))
 
 -- the grammar: one case for each number of words
 abbrev pub command_of : List (List ℕ) → Option Command
 command_of (name ∷ []) = bare name
-command_of (name ∷ word ∷ []) = first_of (with_label name (label_in word)) (unlabelled name word)
+command_of (name ∷ word ∷ []) = first_command (with_label name (label_in word)) (unlabelled name word)
 command_of (name ∷ first ∷ second ∷ []) = of_three name first second
 command_of (name ∷ first ∷ second ∷ last ∷ []) = of_four name first second last
 command_of _ = None

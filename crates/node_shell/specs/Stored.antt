@@ -24,12 +24,12 @@ counts_text leaf = concat
     (codes " low " ∷ decimal leaf.ab.low ∷ codes " last " ∷ decimal leaf.last ∷ codes " n " ∷ decimal
     (length (entries leaf.rows)) ∷ codes " set " ∷ [])
 
-abbrev pub next_number : Entry → List ℕ
-next_number e = concat (codes "," ∷ decimal e.number ∷ [])
+abbrev pub further_number : Entry → List ℕ
+further_number e = concat (codes "," ∷ decimal e.number ∷ [])
 
 -- the numbers behind the first, and the end of the line
 abbrev pub more_line : List Entry → List ℕ
-more_line es = flat_map next_number es ++ codes "\n"
+more_line es = flat_map further_number es ++ codes "\n"
 
 -- the numbers joined by commas, or a dash where there is none
 abbrev pub set_line : List Entry → List ℕ

@@ -16,7 +16,7 @@ use Rattle.node_laws.specs.Stepping.{IsStep, told_by_all}
 use Rattle.node_laws.specs.Simulation.{NodeStandsFor}
 use Rattle.node_laws.specs.Simulation as sim
 use Rattle.node_laws.specs.Rounds.{Settles}
-use Rattle.node_shell.specs.Labels.{Bindings, unbound, AreSame, IsBound}
+use Rattle.node_shell.specs.Labels.{Bindings, unbound, AreSameBindings, IsBound}
 use Rattle.node_shell.specs.declared.line.Kind.{Kind}
 use Rattle.node_shell.specs.declared.line.Kind.TheVariants as kind
 use Rattle.node_shell.specs.declared.line.Call.{Call}
@@ -28,14 +28,14 @@ use Rattle.node_shell.specs.declared.line_result.LineResult.TheVariants as came
 use Rattle.node_shell.specs.Script.{Command, begins, writes, adds, gets, scans, calls, treats, steps, settles, tables, shows, lines_from, first_fault, commands_of, onto}
 use Rattle.node_shell.specs.Ending.{is_failure, settled_text}
 use Rattle.node_shell.specs.Stored.{table_text}
-use Rattle.node_shell.specs.View.{records_of, part_text}
+use Rattle.node_shell.specs.View.{rows_shown, part_text}
 use Rattle.node_shell.specs.Printed.{refusal_line}
 use Rattle.node_shell.specs.Outcome.{out_text}
 
 -- the label of a `begin` is bound to the transaction that it began
 abbrev pub Rebinds : Out → List ℕ → Bindings → Bindings → Type 0
 Rebinds (out.Begun txn) label old new = IsBound old new label txn
-Rebinds _ label old new = AreSame old new
+Rebinds _ label old new = AreSameBindings old new
 
 -- `begin` is an event; that it is refused for want of memory may be for want of room for the label
 abbrev pub Begins : List ℕ → NodeView → Bindings → Out → NodeView → Bindings → Type 0
@@ -78,8 +78,8 @@ keys_fault low None = first_of ((is_empty low, refusal.EmptyKey) ∷ (is_long lo
 keys_fault low (Some high) =
     first_of ((is_empty low || is_empty high, refusal.EmptyKey) ∷ (is_long low || is_long high, refusal.TooLong) ∷ [])
 
-abbrev pub Adds : List ℕ → List ℕ → ℕ → NodeView → Bindings → Out → NodeView → Type 0
-Adds label key amount before labels output after =
+abbrev pub AddsAmount : List ℕ → List ℕ → ℕ → NodeView → Bindings → Out → NodeView → Type 0
+AddsAmount label key amount before labels output after =
     StepsUnless (keys_fault key None) before (event.Act (labels label) (op.Add key amount)) output after
 
 abbrev pub Gets : List ℕ → List ℕ → NodeView → Bindings → Out → NodeView → Type 0
@@ -100,13 +100,13 @@ abbrev pub Treats : LeafCall → List ℕ → NodeView → Out → NodeView → 
 Treats c key before output after = StepsUnless (keys_fault key None) before (leaf_event c key) output after
 
 -- the event of a transaction
-abbrev pub event_of : Call → ℕ → Event
-event_of call.Save txn = event.Save txn
-event_of (call.Back savepoint) txn = event.GoBack txn savepoint
-event_of call.Rollback txn = event.Rollback txn
-event_of call.Commit txn = event.Commit txn
-event_of call.Send txn = event.Send txn
-event_of call.Undo txn = event.Undo txn
+abbrev pub event_called : Call → ℕ → Event
+event_called call.Save txn = event.Save txn
+event_called (call.Back savepoint) txn = event.GoBack txn savepoint
+event_called call.Rollback txn = event.Rollback txn
+event_called call.Commit txn = event.Commit txn
+event_called call.Send txn = event.Send txn
+event_called call.Undo txn = event.Undo txn
 
 -- a result that is one event's output of which this holds
 abbrev pub IsEvent : (Out → Type 0) → LineResult → Type 0
@@ -118,29 +118,29 @@ IsSettling most before (came.Settled outs end) after = Settles before most [] ou
 IsSettling most before _ after = ⊥
 
 -- the records as they are, or memory for them was refused, or the data component is down
-abbrev pub IsTable : NodeView → LineResult → Type 0
-IsTable view (came.Table rows) = (view.dc_up ≡ true) × (rows ≡ records_of view)
-IsTable view (came.Event output) = output ≡ out.Refused (if view.dc_up then refusal.NoMemory else refusal.NotConnected)
-IsTable view _ = ⊥
+abbrev pub IsTableShown : NodeView → LineResult → Type 0
+IsTableShown view (came.Table rows) = (view.dc_up ≡ true) × (rows ≡ rows_shown view)
+IsTableShown view (came.Event output) = output ≡ out.Refused (if view.dc_up then refusal.NoMemory else refusal.NotConnected)
+IsTableShown view _ = ⊥
 
 -- what a line may come to, from a node and labels, and what it leaves
 abbrev pub ComesTo : Command → NodeView → Bindings → LineResult → NodeView → Bindings → Type 0
 ComesTo (begins label) before old r after new = IsEvent (λ output. Begins label before old output after new) r
 ComesTo (writes label k key value) before old r after new =
-    IsEvent (λ output. Writes label k key value before old output after) r × AreSame old new
+    IsEvent (λ output. Writes label k key value before old output after) r × AreSameBindings old new
 ComesTo (adds label key amount) before old r after new =
-    IsEvent (λ output. Adds label key amount before old output after) r × AreSame old new
+    IsEvent (λ output. AddsAmount label key amount before old output after) r × AreSameBindings old new
 ComesTo (gets label key) before old r after new =
-    IsEvent (λ output. Gets label key before old output after) r × AreSame old new
+    IsEvent (λ output. Gets label key before old output after) r × AreSameBindings old new
 ComesTo (scans label low high) before old r after new =
-    IsEvent (λ output. Scans label low high before old output after) r × AreSame old new
+    IsEvent (λ output. Scans label low high before old output after) r × AreSameBindings old new
 ComesTo (calls label c) before old r after new =
-    IsEvent (λ output. IsStep before (event_of c (old label)) output after) r × AreSame old new
-ComesTo (treats c key) before old r after new = IsEvent (λ output. Treats c key before output after) r × AreSame old new
-ComesTo (steps e) before old r after new = IsEvent (λ output. IsStep before e output after) r × AreSame old new
-ComesTo (settles most) before old r after new = IsSettling most before r after × AreSame old new
-ComesTo tables before old r after new = IsTable before r × (after ≡ before) × AreSame old new
-ComesTo (shows p) before old r after new = (r ≡ came.Shown p) × (after ≡ before) × AreSame old new
+    IsEvent (λ output. IsStep before (event_called c (old label)) output after) r × AreSameBindings old new
+ComesTo (treats c key) before old r after new = IsEvent (λ output. Treats c key before output after) r × AreSameBindings old new
+ComesTo (steps e) before old r after new = IsEvent (λ output. IsStep before e output after) r × AreSameBindings old new
+ComesTo (settles most) before old r after new = IsSettling most before r after × AreSameBindings old new
+ComesTo tables before old r after new = IsTableShown before r × (after ≡ before) × AreSameBindings old new
+ComesTo (shows p) before old r after new = (r ≡ came.Shown p) × (after ≡ before) × AreSameBindings old new
 
 -- the client's call and the told lines of an event with its output; none, where the call never reached the node
 abbrev pub lines_if : Option (List Line) → List Line
@@ -162,7 +162,7 @@ client_lines (gets label key) labels (came.Event output) =
     lines_unless (keys_fault key None) (event.Get (labels label) key) output
 client_lines (scans label low high) labels (came.Event output) =
     lines_unless (keys_fault low high) (event.Scan (labels label) low high) output
-client_lines (calls label c) labels (came.Event output) = lines_if (sim.lines_of (event_of c (labels label)) output)
+client_lines (calls label c) labels (came.Event output) = lines_if (sim.lines_of (event_called c (labels label)) output)
 client_lines (treats c key) labels (came.Event output) =
     lines_unless (keys_fault key None) (leaf_event c key) output
 client_lines (steps e) labels (came.Event output) = lines_if (sim.lines_of e output)
@@ -289,7 +289,7 @@ pub record IsLedRun (continues : Bool) (commands : List Command) (view : NodeVie
 abbrev pub IsTextAfterCheck : Bool → Option ℕ → List ℕ → List ℕ → ℕ → Type 0
 IsTextAfterCheck continues (Some line) script text status = IsAlone (refusal_line (refusal.BadScript line)) 2 text status
 IsTextAfterCheck continues None script text status =
-    (labels : Bindings) × AreSame unbound labels
+    (labels : Bindings) × AreSameBindings unbound labels
     × IsToldRun continues (commands_of (lines_from script)) fresh_node labels text status
 
 abbrev pub IsTextOf : Bool → List ℕ → List ℕ → ℕ → Type 0
@@ -333,4 +333,4 @@ pub record WritesTextFrom (continues : Bool) (view : NodeView) (labels : Binding
 -- and with no label bound
 abbrev pub WritesTextOn : Bool → NodeView → Option (List ℕ) → Option (List ℕ) → Option (List ℕ) → ℕ → Type 0
 WritesTextOn continues view given old new status =
-    (labels : Bindings) × AreSame unbound labels × WritesTextFrom continues view labels given old new status
+    (labels : Bindings) × AreSameBindings unbound labels × WritesTextFrom continues view labels given old new status

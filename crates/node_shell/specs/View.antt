@@ -14,18 +14,18 @@ use Rattle.node_shell.specs.Logged.{log_text}
 use Rattle.node_shell.specs.Printed.{refusal_line}
 use Rattle.node_shell.specs.Stored.{leaf_line}
 
-abbrev pub log_of : NodeView → List Record
-log_of view = view.tc.log
+abbrev pub log_shown : NodeView → List Record
+log_shown view = view.tc.log
 
 abbrev pub stable_of : NodeView → ℕ
 stable_of view = view.tc.stable
 
-abbrev pub leaves_of : NodeView → List LeafView
-leaves_of view = leaves view.dc
+abbrev pub leaves_shown : NodeView → List LeafView
+leaves_shown view = leaves view.dc
 
 -- the records, in key order
-abbrev pub records_of : NodeView → List Row
-records_of view = entries (rows_of (leaves view.dc))
+abbrev pub rows_shown : NodeView → List Row
+rows_shown view = entries (rows_of (leaves view.dc))
 
 -- a line of each leaf of a data component that runs, or that it is down
 abbrev pub leaves_text : Bool → List LeafView → List ℕ
@@ -39,5 +39,5 @@ log_if_up false log stable = refusal_line NotConnected
 
 -- what is printed of a part
 abbrev pub part_text : Part → NodeView → List ℕ
-part_text part.Log view = log_if_up view.tc_up (log_of view) (stable_of view)
-part_text part.Leaves view = leaves_text view.dc_up (leaves_of view)
+part_text part.Log view = log_if_up view.tc_up (log_shown view) (stable_of view)
+part_text part.Leaves view = leaves_text view.dc_up (leaves_shown view)

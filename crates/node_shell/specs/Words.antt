@@ -37,9 +37,9 @@ bytes_in digits =
     else decoded (decode_of digits)
 
 -- a value: a text, or a number sign and the digits of its bytes
-abbrev pub value_in : List ℕ → Option (List ℕ)
-value_in [] = None
-value_in (b ∷ bs) = if b == 35 then bytes_in bs else text_in (b ∷ bs)
+abbrev pub value_written : List ℕ → Option (List ℕ)
+value_written [] = None
+value_written (b ∷ bs) = if b == 35 then bytes_in bs else text_in (b ∷ bs)
 
 -- an upper end: a star for none
 abbrev pub end_in : List ℕ → Option (Option (List ℕ))
@@ -55,8 +55,8 @@ abbrev pub amount_if : List ℕ → ℕ → Option ℕ
 amount_if word n = if nat_lt n (2 ^ 64) && bytes_eq (decimal n) word then Some n else None
 
 -- a decimal number below 2 to the power of 64, without leading zeros
-abbrev pub amount_in : List ℕ → Option ℕ
-amount_in word = amount_if word (value_behind 0 word)
+abbrev pub amount_written : List ℕ → Option ℕ
+amount_written word = amount_if word (value_behind 0 word)
 
 abbrev pub if_short : Option ℕ → Option ℕ
 if_short None = None
@@ -64,4 +64,4 @@ if_short (Some n) = if nat_lt n (2 ^ 48) then Some n else None
 
 -- a decimal number below 2 to the power of 48, without leading zeros
 abbrev pub number_in : List ℕ → Option ℕ
-number_in word = if_short (amount_in word)
+number_in word = if_short (amount_written word)

@@ -1,7 +1,7 @@
 //! The line of a device: one of its calls is set to fail.
 ghost use Rattle.std.specs.Prelude.{◌≡◌, option_map};
 ghost use Rattle.node_shell.specs.Words.{number_in};
-ghost use Rattle.node_shell.specs.Script.{device_in, failure_of, with_device, meaning};
+ghost use Rattle.node_shell.specs.Script.{device_in, failing_call, with_device, meaning};
 
 use crate::line::{Device, Line};
 use crate::words::number_of;
@@ -29,15 +29,15 @@ pub fn with_device<'a>(name: &[u8], device: &[u8], call: &[u8]) -> Option<Line<'
     let device = device_in(device)?;
     let call = number_of(call)?;
     if name == b"fail".as_slice() && call >= 1 {
-        Some(Line::Step(failure_of(device, call)))
+        Some(Line::Step(failing_call(device, call)))
     } else {
         None
     }
 }
 
 /// The device's call of this number from now fails.
-fn failure_of(device: Device, call: u64) -> Event
-    ensures { result ≡ failure_of device call }
+fn failing_call(device: Device, call: u64) -> Event
+    ensures { result ≡ failing_call device call }
 {
     match device {
         Device::TcLog => Event::FailTc { call },

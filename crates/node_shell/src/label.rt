@@ -101,11 +101,11 @@ pub struct Labels {
 }
 
 impl Labels {
-    ghost use Rattle.node_shell.specs.Labels.{number_in, unbound, AreSame, IsBound};
+    ghost use Rattle.node_shell.specs.Labels.{bound_number, unbound, AreSameBindings, IsBound};
 
     /// No label is bound.
     pub fn new(alloc: Global) -> Labels
-        ensures { AreSame unbound (number_in result) }
+        ensures { AreSameBindings unbound (bound_number result) }
     {
         Labels {
             numbers: BTreeMap::new(alloc),
@@ -114,7 +114,7 @@ impl Labels {
 
     /// The number that the label stands for.
     pub fn number(&self, label: &Label) -> u64
-        ensures { result ≡ number_in self.now label.now }
+        ensures { result ≡ bound_number self.now label.now }
     {
         match self.numbers.get(label) {
             Some(number) => *number,
@@ -124,7 +124,7 @@ impl Labels {
 
     /// Makes room for the label's binding, and binds nothing.
     pub fn make_room(&mut self, label: &Label) -> Result<(), AllocError>
-        ensures same { AreSame (number_in self.old) (number_in self.new) }
+        ensures same { AreSameBindings (bound_number self.old) (bound_number self.new) }
         ensures room { OnOk result (IsSome (get (slice_cmp nat_cmp) self.new.numbers label.now)) }
     {
         if !self.numbers.contains_key(label) {
@@ -136,7 +136,7 @@ impl Labels {
     /// Binds the label, for which there is room.
     pub fn bind(&mut self, label: &Label, number: u64)
         requires { IsSome (get (slice_cmp nat_cmp) self.old.numbers label.now) }
-        ensures { IsBound (number_in self.old) (number_in self.new) label.now number }
+        ensures { IsBound (bound_number self.old) (bound_number self.new) label.now number }
     {
         // A key that is there takes no memory.
         let _ = self.numbers.insert(label.copied(), number);

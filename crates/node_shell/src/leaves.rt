@@ -2,7 +2,7 @@
 ghost use Rattle.std.specs.Prelude.{◌≡◌, ◌++◌, drop, flat_map};
 ghost use Rattle.std.specs.Option.{option_copied};
 ghost use Rattle.node_shell.specs.Printed.{Prints, piece_text, shown_if};
-ghost use Rattle.node_shell.specs.Stored.{leaf_line, fences_text, counts_text, set_line, more_line, next_number};
+ghost use Rattle.node_shell.specs.Stored.{leaf_line, fences_text, counts_text, set_line, more_line, further_number};
 
 use crate::pieces::{Piece, print};
 use page::Leaf;
@@ -91,7 +91,7 @@ fn print_more<W: io::Write>(writer: &mut W, entries: &Entries) -> io::Result<()>
 
 fn print_numbers<W: io::Write>(writer: &mut W, entries: &Entries) -> io::Result<()>
     ensures { Prints (W.contents writer.old) (W.contents writer.new) result
-        (flat_map next_number (drop 1 entries.now)) }
+        (flat_map further_number (drop 1 entries.now)) }
 {
     for at in 1..entries.len() {
         print_next(writer, &entries.entry(at))?;
@@ -101,7 +101,7 @@ fn print_numbers<W: io::Write>(writer: &mut W, entries: &Entries) -> io::Result<
 
 /// A comma and the number of an entry.
 fn print_next<W: io::Write>(writer: &mut W, entry: &Entry) -> io::Result<()>
-    ensures { Prints (W.contents writer.old) (W.contents writer.new) result (next_number entry.now) }
+    ensures { Prints (W.contents writer.old) (W.contents writer.new) result (further_number entry.now) }
 {
     print(writer, &[Piece::Text(","), Piece::Number(entry.number)])
 }

@@ -1,7 +1,7 @@
 //! The names that begin lines, by what follows them.
 ghost use Rattle.std.specs.Prelude.{◌≡◌, option_map};
 ghost use Rattle.node_shell.specs.Words.{label_in, number_in, text_in};
-ghost use Rattle.node_shell.specs.Script.{bare, with_label, call_named, with_number, with_leaf, leaf_call_named, with_key, with_savepoint, kind_with_value, meaning};
+ghost use Rattle.node_shell.specs.Script.{bare, with_label, call_named, with_number, treating_leaf, leaf_call_named, with_key, with_savepoint, kind_with_value, meaning};
 
 use crate::label::Label;
 use crate::line::{Call, Kind, LeafCall, Line, Part, Written};
@@ -87,8 +87,8 @@ pub fn with_number<'a>(name: &[u8], word: &[u8]) -> Option<Line<'a>>
 }
 
 /// A line of a name and the key of a leaf.
-pub fn with_leaf<'a>(name: &[u8], word: &'a [u8]) -> Option<Line<'a>>
-    ensures { option_map meaning result ≡ with_leaf name.now (text_in word.now) }
+pub fn treating_leaf<'a>(name: &[u8], word: &'a [u8]) -> Option<Line<'a>>
+    ensures { option_map meaning result ≡ treating_leaf name.now (text_in word.now) }
 {
     let key = text_of(word)?;
     let call = leaf_call_named(name)?;

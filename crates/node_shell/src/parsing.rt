@@ -1,6 +1,6 @@
 //! The grammar of a line: one place for each number of words.
 ghost use Rattle.std.specs.Prelude.{◌≡◌, ◌∷◌, option_map};
-ghost use Rattle.node_shell.specs.Words.{words_of, label_in, text_in, value_in, amount_in, end_in};
+ghost use Rattle.node_shell.specs.Words.{words_of, label_in, text_in, value_written, amount_written, end_in};
 ghost use Rattle.node_shell.specs.Script.{command_of, unlabelled, of_three, of_four, write_of, add_of, scan_of, meaning};
 
 use crate::components::{crash, with_component};
@@ -8,7 +8,7 @@ use crate::failures::with_device;
 use crate::label::Label;
 use crate::line::{Kind, Line};
 use crate::names::{
-    bare, kind_with_value, with_key, with_label, with_leaf, with_number, with_savepoint,
+    bare, kind_with_value, treating_leaf, with_key, with_label, with_number, with_savepoint,
 };
 use crate::script::cut_at;
 use crate::words::{amount_of, end_of, text_of, written};
@@ -45,7 +45,7 @@ fn parse_unlabelled<'a>(name: &[u8], word: &'a [u8]) -> Option<Line<'a>>
     if let Some(line) = with_number(name, word) {
         return Some(line);
     }
-    match with_leaf(name, word) {
+    match treating_leaf(name, word) {
         Some(line) => Some(line),
         None => with_component(name, word),
     }
@@ -101,7 +101,7 @@ fn parse_four<'a>(name: &[u8], first: &[u8], second: &'a [u8], last: &'a [u8]) -
 
 /// A write whose label, key and value are these words.
 fn write<'a>(kind: Option<Kind>, label: &[u8], key: &'a [u8], value: &'a [u8]) -> Option<Line<'a>>
-    ensures { option_map meaning result ≡ write_of kind (label_in label.now) (text_in key.now) (value_in value.now) }
+    ensures { option_map meaning result ≡ write_of kind (label_in label.now) (text_in key.now) (value_written value.now) }
 {
     let kind = kind?;
     let label = Label::new(label)?;
@@ -117,7 +117,7 @@ fn write<'a>(kind: Option<Kind>, label: &[u8], key: &'a [u8], value: &'a [u8]) -
 
 /// An increment whose label, key and amount are these words.
 fn add<'a>(label: &[u8], key: &'a [u8], amount: &[u8]) -> Option<Line<'a>>
-    ensures { option_map meaning result ≡ add_of (label_in label.now) (text_in key.now) (amount_in amount.now) }
+    ensures { option_map meaning result ≡ add_of (label_in label.now) (text_in key.now) (amount_written amount.now) }
 {
     let label = Label::new(label)?;
     let key = text_of(key)?;

@@ -7,9 +7,9 @@ ghost use Rattle.std.specs.BTreeMap.{get};
 ghost use Rattle.record_key.specs.FirstCause.{RefusesAs};
 ghost use Rattle.tc_core.specs.Causes.{begin_refusal};
 ghost use Rattle.node_laws.specs.Node.{fresh_node, if_up};
-ghost use Rattle.node_shell.specs.Labels.{number_in, unbound, AreSame};
+ghost use Rattle.node_shell.specs.Labels.{bound_number, unbound, AreSameBindings};
 ghost use Rattle.node_shell.specs.Script.{meaning};
-ghost use Rattle.node_shell.specs.Text.{ComesTo, Begins, Writes, Adds, Gets, Scans, Treats, IsTable, IsSettling, event_of, leaf_event, op_written, length_fault, keys_fault};
+ghost use Rattle.node_shell.specs.Text.{ComesTo, Begins, Writes, AddsAmount, Gets, Scans, Treats, IsTableShown, IsSettling, event_called, leaf_event, op_written, length_fault, keys_fault};
 
 use crate::label::{Label, Labels};
 use crate::line::{Call, Kind, LeafCall, Line};
@@ -32,7 +32,7 @@ impl Shell<MemLog, MemPages> {
     /// A new node, and no label bound.
     pub fn new(alloc: Global) -> Result<Shell, Refusal>
         ensures world { IfOk result (λ shell. shell.world ≡ fresh_node) }
-        ensures labels { IfOk result (λ shell. AreSame unbound (number_in shell.labels)) }
+        ensures labels { IfOk result (λ shell. AreSameBindings unbound (bound_number shell.labels)) }
         ensures memory { IfErr result (λ refusal. refusal ≡ Refusal.NoMemory) }
     {
         Ok(Shell::on(alloc, World::new(alloc)?))
@@ -43,7 +43,7 @@ impl<D: CrashLog, P: CrashPages> Shell<D, P> {
     /// This node, and no label bound.
     pub fn on(alloc: Global, world: World<D, P>) -> Shell<D, P>
         ensures world { result.world ≡ world }
-        ensures labels { AreSame unbound (number_in result.labels) }
+        ensures labels { AreSameBindings unbound (bound_number result.labels) }
     {
         Shell {
             alloc,
@@ -54,15 +54,15 @@ impl<D: CrashLog, P: CrashPages> Shell<D, P> {
 
     /// The number of the transaction that the label stands for, 0 where it is not bound.
     pub fn bound(&self, label: &Label) -> u64
-        ensures { result ≡ number_in self.now.labels label.now }
+        ensures { result ≡ bound_number self.now.labels label.now }
     {
         self.labels.number(label)
     }
 
     /// Runs the line.
     pub fn perform(&mut self, line: &Line<'_>) -> LineResult
-        ensures { ComesTo (meaning line.now) self.old.world (number_in self.old.labels) result self.new.world
-            (number_in self.new.labels) }
+        ensures { ComesTo (meaning line.now) self.old.world (bound_number self.old.labels) result self.new.world
+            (bound_number self.new.labels) }
     {
         match line {
             Line::Begin(label) => LineResult::Event(self.begin(label)),
@@ -76,7 +76,7 @@ impl<D: CrashLog, P: CrashPages> Shell<D, P> {
             Line::Get { label, key } => LineResult::Event(self.get(label, key)),
             Line::Scan { label, low, high } => LineResult::Event(self.scan(label, low, *high)),
             Line::Call { label, call } => {
-                let event = event_of(*call, self.labels.number(label));
+                let event = event_called(*call, self.labels.number(label));
                 LineResult::Event(self.world.step(&event))
             }
             Line::Leaf { call, key } => LineResult::Event(self.treat(*call, key)),
@@ -89,8 +89,8 @@ impl<D: CrashLog, P: CrashPages> Shell<D, P> {
 
     /// Begins a transaction and binds the label to it.
     fn begin(&mut self, label: &Label) -> Out
-        ensures { Begins label.now self.old.world (number_in self.old.labels) result self.new.world
-            (number_in self.new.labels) }
+        ensures { Begins label.now self.old.world (bound_number self.old.labels) result self.new.world
+            (bound_number self.new.labels) }
     {
         self.world.kept();
         if let Err(refusal) = self.make_way(label) {
@@ -108,7 +108,7 @@ impl<D: CrashLog, P: CrashPages> Shell<D, P> {
         ensures refused { IfErr result (RefusesAs (if_up self.old.world.tc_up (begin_refusal self.old.world.tc))) }
         ensures room { OnOk result (IsSome (get (slice_cmp nat_cmp) self.new.labels.numbers label.now)) }
         ensures world { self.new.world ≡ self.old.world }
-        ensures labels { AreSame (number_in self.old.labels) (number_in self.new.labels) }
+        ensures labels { AreSameBindings (bound_number self.old.labels) (bound_number self.new.labels) }
     {
         self.world.can_begin()?;
         self.labels.make_room(label)?;
@@ -117,9 +117,9 @@ impl<D: CrashLog, P: CrashPages> Shell<D, P> {
 
     /// Writes, where the key and the value have lengths that the node takes.
     fn write(&mut self, label: &Label, kind: Kind, key: &[u8], value: &[u8]) -> Out
-        ensures event { Writes label.now kind key.now value.now self.old.world (number_in self.old.labels) result
+        ensures event { Writes label.now kind key.now value.now self.old.world (bound_number self.old.labels) result
             self.new.world }
-        ensures labels { AreSame (number_in self.old.labels) (number_in self.new.labels) }
+        ensures labels { AreSameBindings (bound_number self.old.labels) (bound_number self.new.labels) }
     {
         let op = match op_of(kind, key, value) {
             Ok(op) => op,
@@ -129,11 +129,11 @@ impl<D: CrashLog, P: CrashPages> Shell<D, P> {
         self.world.step(&Event::Act { txn, op })
     }
 
-    /// Adds to the number at a key that has a length that the node takes.
+    /// AddsAmount to the number at a key that has a length that the node takes.
     fn add(&mut self, label: &Label, key: &[u8], amount: u64) -> Out
-        ensures event { Adds label.now key.now amount self.old.world (number_in self.old.labels) result
+        ensures event { AddsAmount label.now key.now amount self.old.world (bound_number self.old.labels) result
             self.new.world }
-        ensures labels { AreSame (number_in self.old.labels) (number_in self.new.labels) }
+        ensures labels { AreSameBindings (bound_number self.old.labels) (bound_number self.new.labels) }
     {
         let key = match Key::new(key) {
             Ok(key) => key,
@@ -147,7 +147,7 @@ impl<D: CrashLog, P: CrashPages> Shell<D, P> {
     /// Splits, merges or writes the leaf of a key that has a length that the node takes.
     fn treat(&mut self, call: LeafCall, key: &[u8]) -> Out
         ensures event { Treats call key.now self.old.world result self.new.world }
-        ensures labels { AreSame (number_in self.old.labels) (number_in self.new.labels) }
+        ensures labels { AreSameBindings (bound_number self.old.labels) (bound_number self.new.labels) }
     {
         let event = match leaf_event(call, key) {
             Ok(event) => event,
@@ -158,7 +158,7 @@ impl<D: CrashLog, P: CrashPages> Shell<D, P> {
 
     /// The records as they are.
     fn table(&self) -> LineResult
-        ensures { IsTable self.now.world result }
+        ensures { IsTableShown self.now.world result }
     {
         match self.world.rows() {
             Ok(rows) => LineResult::Table(RowList::new(rows)),
@@ -168,8 +168,8 @@ impl<D: CrashLog, P: CrashPages> Shell<D, P> {
 
     /// Asks for the value at a key that has a length that the node takes.
     fn get(&mut self, label: &Label, key: &[u8]) -> Out
-        ensures event { Gets label.now key.now self.old.world (number_in self.old.labels) result self.new.world }
-        ensures labels { AreSame (number_in self.old.labels) (number_in self.new.labels) }
+        ensures event { Gets label.now key.now self.old.world (bound_number self.old.labels) result self.new.world }
+        ensures labels { AreSameBindings (bound_number self.old.labels) (bound_number self.new.labels) }
     {
         let key = match Key::new(key) {
             Ok(key) => key,
@@ -181,9 +181,9 @@ impl<D: CrashLog, P: CrashPages> Shell<D, P> {
 
     /// Asks for the rows between keys that have lengths that the node takes.
     fn scan(&mut self, label: &Label, low: &[u8], high: Option<&[u8]>) -> Out
-        ensures event { Scans label.now low.now (option_copied high.entry) self.old.world (number_in self.old.labels)
+        ensures event { Scans label.now low.now (option_copied high.entry) self.old.world (bound_number self.old.labels)
             result self.new.world }
-        ensures labels { AreSame (number_in self.old.labels) (number_in self.new.labels) }
+        ensures labels { AreSameBindings (bound_number self.old.labels) (bound_number self.new.labels) }
     {
         let (low, high) = match ends_of(low, high) {
             Ok(ends) => ends,
@@ -241,8 +241,8 @@ fn leaf_event(call: LeafCall, key: &[u8]) -> Result<Event, Refusal>
 }
 
 /// What is to happen to the transaction of this number.
-fn event_of(call: Call, txn: u64) -> Event
-    ensures { result ≡ event_of call txn }
+fn event_called(call: Call, txn: u64) -> Event
+    ensures { result ≡ event_called call txn }
 {
     match call {
         Call::Save => Event::Save { txn },

@@ -4,7 +4,7 @@ ghost use Rattle.history.specs.Log.{record_at};
 ghost use Rattle.node_shell.specs.Printed.{Prints};
 ghost use Rattle.node_shell.specs.Logged.{line_at, lines_to, log_text};
 ghost use Rattle.node_shell.specs.Stored.{leaf_line};
-ghost use Rattle.node_shell.specs.View.{log_of, log_if_up, leaves_of, leaves_text, stable_of, part_text};
+ghost use Rattle.node_shell.specs.View.{log_shown, log_if_up, leaves_shown, leaves_text, stable_of, part_text};
 
 use crate::leaves::print_leaf;
 use crate::line::Part;
@@ -36,7 +36,7 @@ fn print_leaves<D: CrashLog, P: CrashPages, W: io::Write>(
     world: &World<D, P>,
 ) -> io::Result<()>
     ensures { Prints (W.contents writer.old) (W.contents writer.new) result
-        (leaves_text world.now.dc_up (leaves_of world.now)) }
+        (leaves_text world.now.dc_up (leaves_shown world.now)) }
 {
     match world.leaves() {
         Ok(count) => print_each_leaf(writer, world, count),
@@ -51,8 +51,8 @@ fn print_each_leaf<D: CrashLog, P: CrashPages, W: io::Write>(
     count: usize,
 ) -> io::Result<()>
     requires up { world.now.dc_up ≡ true }
-    requires all { count ≡ length (leaves_of world.now) }
-    ensures { Prints (W.contents writer.old) (W.contents writer.new) result (flat_map leaf_line (leaves_of world.now)) }
+    requires all { count ≡ length (leaves_shown world.now) }
+    ensures { Prints (W.contents writer.old) (W.contents writer.new) result (flat_map leaf_line (leaves_shown world.now)) }
 {
     for place in 0..count {
         print_leaf(writer, world.leaf(place))?;
@@ -66,7 +66,7 @@ fn print_log<D: CrashLog, P: CrashPages, W: io::Write>(
     world: &World<D, P>,
 ) -> io::Result<()>
     ensures { Prints (W.contents writer.old) (W.contents writer.new) result
-        (log_if_up world.now.tc_up (log_of world.now) (stable_of world.now)) }
+        (log_if_up world.now.tc_up (log_shown world.now) (stable_of world.now)) }
 {
     match log_ends(world) {
         Ok((count, stable)) => print_whole_log(writer, world, count, stable),
@@ -76,7 +76,7 @@ fn print_log<D: CrashLog, P: CrashPages, W: io::Write>(
 
 /// How many records the log has, and how many of them are stable. Refused NotConnected.
 fn log_ends<D: CrashLog, P: CrashPages>(world: &World<D, P>) -> Result<(u64, u64), Refusal>
-    ensures count { IfOk result (λ ends. ends.0 ≡ length (log_of world.now)) }
+    ensures count { IfOk result (λ ends. ends.0 ≡ length (log_shown world.now)) }
     ensures stable { IfOk result (λ ends. ends.1 ≡ stable_of world.now) }
     ensures up { OnOk result (world.now.tc_up ≡ true) }
     ensures refused { IfErr result (λ refusal. refusal ≡ Refusal.NotConnected) }
@@ -93,10 +93,10 @@ fn print_whole_log<D: CrashLog, P: CrashPages, W: io::Write>(
     stable: u64,
 ) -> io::Result<()>
     requires up { world.now.tc_up ≡ true }
-    requires all { count ≡ length (log_of world.now) }
+    requires all { count ≡ length (log_shown world.now) }
     requires stable { stable ≡ stable_of world.now }
     ensures { Prints (W.contents writer.old) (W.contents writer.new) result
-        (log_text (log_of world.now) (stable_of world.now)) }
+        (log_text (log_shown world.now) (stable_of world.now)) }
 {
     print_records(writer, world, count)?;
     print(
@@ -118,7 +118,7 @@ fn print_records<D: CrashLog, P: CrashPages, W: io::Write>(
     count: u64,
 ) -> io::Result<()>
     requires { world.now.tc_up ≡ true }
-    ensures { Prints (W.contents writer.old) (W.contents writer.new) result (lines_to (log_of world.now) count) }
+    ensures { Prints (W.contents writer.old) (W.contents writer.new) result (lines_to (log_shown world.now) count) }
 {
     for before in 0..count {
         print_at(writer, world, before + 1)?;
@@ -134,7 +134,7 @@ fn print_at<D: CrashLog, P: CrashPages, W: io::Write>(
 ) -> io::Result<()>
     requires { world.now.tc_up ≡ true }
     ensures { Prints (W.contents writer.old) (W.contents writer.new) result
-        (line_at lsn (record_at (log_of world.now) lsn)) }
+        (line_at lsn (record_at (log_shown world.now) lsn)) }
 {
     match world.record(lsn) {
         Ok(Some(entry)) => print_record(writer, lsn, &entry),

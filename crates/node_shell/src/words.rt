@@ -2,7 +2,7 @@
 ghost use Rattle.std.specs.Prelude.{◌≡◌, ◌+◌, ◌*◌, ◌-◌, ◌^◌, ◌<◌, option_map, nat_lt, Some, None, if◌then◌else◌};
 ghost use Rattle.std.specs.List.{list_all, list_any};
 ghost use Rattle.std.specs.Char.{is_ascii_alphanumeric, is_ascii_uppercase};
-ghost use Rattle.node_shell.specs.Words.{is_plain, text_in, end_in, value_behind, number_in, amount_in, value_in, bytes_in};
+ghost use Rattle.node_shell.specs.Words.{is_plain, text_in, end_in, value_behind, number_in, amount_written, value_written, bytes_in};
 ghost use Rattle.node_shell.specs.Script.{written_bytes};
 
 use crate::line::Written;
@@ -31,7 +31,7 @@ pub fn number_of(word: &[u8]) -> Option<u64>
 
 /// The amount that the word is, in decimal and without leading zeros, if it is one below 2 to the power of 64.
 pub fn amount_of(word: &[u8]) -> Option<u64>
-    ensures { result ≡ amount_in word.now }
+    ensures { result ≡ amount_written word.now }
 {
     let amount = value_of(word)?;
     if Buffer::new().format(amount).as_bytes() == word {
@@ -68,7 +68,7 @@ pub fn text_of(word: &[u8]) -> Option<&[u8]>
 
 /// The value that a word stands for: a text, or a number sign and the digits of its bytes.
 pub fn written(word: &[u8]) -> Option<Written<'_>>
-    ensures { option_map written_bytes result ≡ value_in word.now }
+    ensures { option_map written_bytes result ≡ value_written word.now }
 {
     match word {
         [b'#', digits @ ..] => Some(Written::Bytes(bytes_of(digits)?)),

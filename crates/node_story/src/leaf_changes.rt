@@ -1,6 +1,6 @@
 //! What has changed at the leaves.
 ghost use Rattle.std.specs.Prelude.{◌≡◌, true, length};
-ghost use Rattle.node_shell.specs.View.{leaves_of};
+ghost use Rattle.node_shell.specs.View.{leaves_shown};
 
 use crate::leaf::{Birth, Change, Held, Shot, What};
 use crate::story::Story;
@@ -54,7 +54,7 @@ fn note_each_birth(
     step: usize,
 ) -> Result<(), Refusal>
     requires up { world.now.dc_up ≡ true }
-    requires all { count ≡ length (leaves_of world.now) }
+    requires all { count ≡ length (leaves_shown world.now) }
 {
     for place in 0..count {
         note_birth(world.leaf(place), before, births, step)?;

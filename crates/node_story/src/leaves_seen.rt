@@ -1,6 +1,6 @@
 //! The leaves as they are seen behind each step, and what has changed at them.
 ghost use Rattle.std.specs.Prelude.{◌≡◌, true, length};
-ghost use Rattle.node_shell.specs.View.{leaves_of};
+ghost use Rattle.node_shell.specs.View.{leaves_shown};
 
 use crate::leaf::{Held, Shot};
 use crate::leaf_changes::{
@@ -76,7 +76,7 @@ fn shoot_each(
     held: &mut Vec<Held>,
 ) -> Result<bool, Refusal>
     requires up { world.now.dc_up ≡ true }
-    requires all { count ≡ length (leaves_of world.now) }
+    requires all { count ≡ length (leaves_shown world.now) }
 {
     for place in 0..count {
         shoot_one(world.leaf(place), shots, held)?;

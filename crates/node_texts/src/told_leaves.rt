@@ -1,6 +1,6 @@
 //! The leaves, in words: the fences of each, its low number, and what it has captured beyond that.
 ghost use Rattle.std.specs.Prelude.{◌≡◌, true, length};
-ghost use Rattle.node_shell.specs.View.{leaves_of};
+ghost use Rattle.node_shell.specs.View.{leaves_shown};
 
 use crate::numbers::Numbers;
 use crate::text::Text;
@@ -21,7 +21,7 @@ pub fn tell_leaves(text: &mut Text<'_, Vec<u8>>, story: &Story<'_>) {
 
 fn tell_each(text: &mut Text<'_, Vec<u8>>, world: &World, count: usize)
     requires up { world.now.dc_up ≡ true }
-    requires all { count ≡ length (leaves_of world.now) }
+    requires all { count ≡ length (leaves_shown world.now) }
 {
     for place in 0..count {
         tell_leaf(text, world.leaf(place));

@@ -10,7 +10,7 @@ use Rattle.pool_journal.specs.Errands.{EndsWithFailure}
 use Rattle.pool_journal.specs.declared.failure.Failure.{Failure}
 use Rattle.pool_journal.specs.Sessions.{SessionCall, IsLeft, LeavesLive, Part, called_as, calls, is_pending, with_latest}
 use Rattle.pool_journal.specs.Slots.{Slot}
-use Rattle.session_answers.specs.Answers.{Adds, CallsUntold, Ends, Finishes}
+use Rattle.session_answers.specs.Answers.{AddsCall, CallsUntold, Ends, Finishes}
 use Rattle.session_answers.specs.declared.ended.Ended.{Ended}
 use Rattle.session_answers.specs.declared.ended.Ended.TheVariants as ended
 
@@ -37,7 +37,7 @@ ends_by row e old mid new token (ended.AtOnce p) k (shown, is, done, still) =
     let live : LeavesLive old.live (out_of token) new = subst (LeavesLive old.live (out_of token)) (sym still) k.called.live in (
       shown,
       ap is_pending same ∙ done,
-      subst (λ (o : Out). Adds e o None old new) (sym same)
+      subst (λ (o : Out). AddsCall e o None old new) (sym same)
           (ap calls still ∙ adds (called_as e (out_of token) None) old mid k.called.before k.called.latest),
       subst (λ (o : Out). LeavesLive old.live o new) (sym same) live,
     )
@@ -54,7 +54,7 @@ ends_by row e old mid new token (ended.Told p q) k (p_shown, is, q_shown, pends,
           told.line,
           told.tells,
           told.over,
-          subst (λ (o : Out). Adds e o (Some told.line) old new) (sym same)
+          subst (λ (o : Out). AddsCall e o (Some told.line) old new) (sym same)
               (adds (called_as e (out_of token) (Some told.line)) old new (told.before ∙ k.called.before) latest),
         ),
       ),
@@ -64,7 +64,7 @@ ends_by row e old mid new token (ended.Unfinished u f) k (is, pends, waits, fail
       ap is_pending same ∙ pends,
       halted (out_of token) old.live mid new pends k.called.live waits.live waits.alive,
       waits.alive,
-      subst (λ (o : Out). Adds e o None old new) (sym same)
+      subst (λ (o : Out). AddsCall e o None old new) (sym same)
           (adds (called_as e (out_of token) None) old new (waits.untold.before ∙ k.called.before)
           (waits.untold.latest ∙ k.called.latest)),
       subst (λ (fs : List Failure). EndsWithFailure fs new.failures f) k.called.failures failed,

@@ -10,7 +10,7 @@ use Rattle.pool_journal.specs.Callers.{HasLine}
 use Rattle.pool_journal.specs.Sessions.{SessionCall, Part, called_as, calls, is_pending, line_to, pending, with_latest}
 use Rattle.pool_journal.specs.Slots.{Slot}
 use Rattle.session_answers.proofs.Telling.{commits, given_as_told, one_line}
-use Rattle.session_answers.specs.Again.{CarriesOn, IsAnswer, IsGiven, IsNotTold, IsToldSo, RefusedAgain, Resumes}
+use Rattle.session_answers.specs.Again.{CarriesOn, IsAnswerTo, AnswersWith, IsNotTold, IsToldSo, RefusedAgain, Resumes}
 use Rattle.session_answers.specs.Asking.{is_answered, is_done, is_told}
 use Rattle.session_answers.specs.Unfinished.{call_in}
 use Rattle.session_answers.specs.declared.ended.Ended.{Ended}
@@ -24,7 +24,7 @@ event_in p = p.value.step.value.event
 
 -- an output that answers a call tells the line that does
 answers : (e : Event) (o : Out) (t : ℕ) (l : Out) (line : Line) (a : Told) → line_to t l ≡ Some line
-    → IsGiven e o l a → IsAnswer e o line a
+    → AnswersWith e o l a → IsAnswerTo e o line a
 answers (event.Act u op) o t l line (told.Answer a) is (logged, (v, l_is)) =
     let so = subst (λ (x : Out). line_to t x ≡ Some line) l_is is in
     (logged, (v, one_line (v == t) (TellsAnswer v a) line so))

@@ -1,13 +1,14 @@
 -- What an output tells a transaction, and the line that it is.
 use Rattle.std.proofs.Common.{◌≡◌, ℕ, ◌==◌, Bool, true, false, Some, refl, ap, sym, subst}
+use Rattle.history.specs.History.{is_among}
 use Rattle.history.specs.ListMachine.{Line, TellsAnswer, TellsRow, TellsRows, TellsBack, TellsRolledBack, TellsCommitted, TellsLost}
 use Rattle.node_laws.specs.declared.event.Event.{Event}
 use Rattle.node_laws.specs.declared.event.Event.TheVariants as event
 use Rattle.node_laws.specs.declared.event.Out.{Out}
 use Rattle.node_laws.specs.declared.event.Out.TheVariants as out
 use Rattle.pool_journal.specs.Errands.{is_commit_logged}
-use Rattle.pool_journal.specs.Sessions.{is_among, line_to, only_if}
-use Rattle.session_answers.specs.Again.{is_given}
+use Rattle.pool_journal.specs.Sessions.{line_to, only_if}
+use Rattle.session_answers.specs.Again.{answers_with}
 use Rattle.session_answers.specs.Answers.{TellsCommit}
 use Rattle.session_answers.specs.Asking.{both, gives_answer, gives_back, gives_commit, gives_rolled_back, gives_row, gives_rows, is_answer, is_asked, is_back, is_committed, is_logged, is_rolled_back, is_rolling, is_row, is_rows, is_told_by}
 
@@ -58,7 +59,7 @@ same t _ line is = absurd (cc (is))
 
 -- so a call is answered by the one where it is by the other
 pub given_as_told : (e : Event) (o : Out) (t : ℕ) (l : Out) (line : Line) → line_to t l ≡ Some line
-    → is_given e o l ≡ is_told_by e o line
+    → answers_with e o l ≡ is_told_by e o line
 given_as_told (event.Act u op) o t l line is = ap (both (is_logged o)) (same t l line is).answer
 given_as_told (event.Get u key) o t l line is = ap (both (is_asked o)) (same t l line is).row
 given_as_told (event.Scan u low high) o t l line is = ap (both (is_asked o)) (same t l line is).rows

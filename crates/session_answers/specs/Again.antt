@@ -13,7 +13,7 @@ use Rattle.pool_journal.specs.Failing.{refusal_of}
 use Rattle.pool_journal.specs.Sessions.{SessionCall, Part, called_as, calls, IsClosed}
 use Rattle.pool_journal.specs.Slots.{Slot, Shown}
 use Rattle.pool_journal.specs.declared.failure.Failure.{Failure}
-use Rattle.session_answers.specs.Answers.{Finishes, IsOver, TellsCommit}
+use Rattle.session_answers.specs.Answers.{Finishes, EndsLive, TellsCommit}
 use Rattle.session_answers.specs.Asking.{both, gives_answer, gives_back, gives_commit, gives_rolled_back, gives_row, gives_rows, is_answered, is_asked, is_logged, is_rolling}
 use Rattle.session_answers.specs.Unfinished.{IsUnfinished, call_in}
 use Rattle.session_answers.specs.declared.ended.Ended.{Ended}
@@ -22,36 +22,36 @@ use Rattle.session_answers.specs.declared.told.Told.{Told}
 use Rattle.session_answers.specs.declared.told.Told.TheVariants as told
 
 -- a call that came to this is answered so by this line
-abbrev pub IsAnswer : Event → Out → Line → Told → Type 0
-IsAnswer (event.Act t op) o line (told.Answer a) = ((n : ℕ) × (o ≡ out.Logged n)) × ((u : ℕ) × (line ≡ TellsAnswer u a))
-IsAnswer (event.Get t key) o line (told.Row v) = ((n : ℕ) × (o ≡ out.Asked n)) × ((u : ℕ) × (line ≡ TellsRow u v))
-IsAnswer (event.Scan t low high) o line (told.Rows rows) =
+abbrev pub IsAnswerTo : Event → Out → Line → Told → Type 0
+IsAnswerTo (event.Act t op) o line (told.Answer a) = ((n : ℕ) × (o ≡ out.Logged n)) × ((u : ℕ) × (line ≡ TellsAnswer u a))
+IsAnswerTo (event.Get t key) o line (told.Row v) = ((n : ℕ) × (o ≡ out.Asked n)) × ((u : ℕ) × (line ≡ TellsRow u v))
+IsAnswerTo (event.Scan t low high) o line (told.Rows rows) =
     ((n : ℕ) × (o ≡ out.Asked n)) × ((u : ℕ) × (line ≡ TellsRows u rows))
-IsAnswer (event.GoBack t s) o line told.Back = (o ≡ out.RollingBack) × ((u : ℕ) × (n : ℕ) × (line ≡ TellsBack u n))
-IsAnswer (event.Rollback t) o line told.RolledBack = (o ≡ out.RollingBack) × ((u : ℕ) × (line ≡ TellsRolledBack u))
-IsAnswer (event.Commit t) o line (told.Committed n) = (o ≡ out.CommitLogged n) × ((u : ℕ) × (line ≡ TellsCommitted u))
-IsAnswer _ o line _ = ⊥
+IsAnswerTo (event.GoBack t s) o line told.Back = (o ≡ out.RollingBack) × ((u : ℕ) × (n : ℕ) × (line ≡ TellsBack u n))
+IsAnswerTo (event.Rollback t) o line told.RolledBack = (o ≡ out.RollingBack) × ((u : ℕ) × (line ≡ TellsRolledBack u))
+IsAnswerTo (event.Commit t) o line (told.Committed n) = (o ≡ out.CommitLogged n) × ((u : ℕ) × (line ≡ TellsCommitted u))
+IsAnswerTo _ o line _ = ⊥
 
 -- the same of the output that tells the line
-abbrev pub IsGiven : Event → Out → Out → Told → Type 0
-IsGiven (event.Act t op) o l (told.Answer a) = ((n : ℕ) × (o ≡ out.Logged n)) × ((u : ℕ) × (l ≡ out.Answered u a))
-IsGiven (event.Get t key) o l (told.Row v) = ((n : ℕ) × (o ≡ out.Asked n)) × ((u : ℕ) × (l ≡ out.Row u v))
-IsGiven (event.Scan t low high) o l (told.Rows rows) =
+abbrev pub AnswersWith : Event → Out → Out → Told → Type 0
+AnswersWith (event.Act t op) o l (told.Answer a) = ((n : ℕ) × (o ≡ out.Logged n)) × ((u : ℕ) × (l ≡ out.Answered u a))
+AnswersWith (event.Get t key) o l (told.Row v) = ((n : ℕ) × (o ≡ out.Asked n)) × ((u : ℕ) × (l ≡ out.Row u v))
+AnswersWith (event.Scan t low high) o l (told.Rows rows) =
     ((n : ℕ) × (o ≡ out.Asked n)) × ((u : ℕ) × (l ≡ out.Rows u rows))
-IsGiven (event.GoBack t s) o l told.Back = (o ≡ out.RollingBack) × ((u : ℕ) × (n : ℕ) × (l ≡ out.Back u n))
-IsGiven (event.Rollback t) o l told.RolledBack = (o ≡ out.RollingBack) × ((u : ℕ) × (l ≡ out.RolledBack u))
-IsGiven (event.Commit t) o l (told.Committed n) = (o ≡ out.CommitLogged n) × TellsCommit l
-IsGiven _ o l _ = ⊥
+AnswersWith (event.GoBack t s) o l told.Back = (o ≡ out.RollingBack) × ((u : ℕ) × (n : ℕ) × (l ≡ out.Back u n))
+AnswersWith (event.Rollback t) o l told.RolledBack = (o ≡ out.RollingBack) × ((u : ℕ) × (l ≡ out.RolledBack u))
+AnswersWith (event.Commit t) o l (told.Committed n) = (o ≡ out.CommitLogged n) × TellsCommit l
+AnswersWith _ o l _ = ⊥
 
 -- whether the output answers a call that came to this
-abbrev pub is_given : Event → Out → Out → Bool
-is_given (event.Act t op) o l = both (is_logged o) (gives_answer l)
-is_given (event.Get t key) o l = both (is_asked o) (gives_row l)
-is_given (event.Scan t low high) o l = both (is_asked o) (gives_rows l)
-is_given (event.GoBack t s) o l = both (is_rolling o) (gives_back l)
-is_given (event.Rollback t) o l = both (is_rolling o) (gives_rolled_back l)
-is_given (event.Commit t) o l = both (is_commit_logged o) (gives_commit l)
-is_given _ o l = false
+abbrev pub answers_with : Event → Out → Out → Bool
+answers_with (event.Act t op) o l = both (is_logged o) (gives_answer l)
+answers_with (event.Get t key) o l = both (is_asked o) (gives_row l)
+answers_with (event.Scan t low high) o l = both (is_asked o) (gives_rows l)
+answers_with (event.GoBack t s) o l = both (is_rolling o) (gives_back l)
+answers_with (event.Rollback t) o l = both (is_rolling o) (gives_rolled_back l)
+answers_with (event.Commit t) o l = both (is_commit_logged o) (gives_commit l)
+answers_with _ o l = false
 
 -- how an unfinished call went on
 abbrev pub Resumes : Shelves → Part → Ended → Part → Type 0
@@ -60,13 +60,13 @@ Resumes row old how new =
 
 abbrev pub IsToldSo : Ended → Told → Type 0
 IsToldSo (ended.Told p q) t =
-    IsGiven p.value.step.value.event p.value.step.value.out q.value.step.value.out t
+    AnswersWith p.value.step.value.event p.value.step.value.out q.value.step.value.out t
 IsToldSo _ t = ⊥
 
 abbrev pub IsNotTold : Ended → Refusal → Type 0
 IsNotTold (ended.AtOnce p) r = ⊤
 IsNotTold (ended.Told p q) r = (r ≡ NotConnected)
-    × (is_given p.value.step.value.event p.value.step.value.out q.value.step.value.out ≡ false)
+    × (answers_with p.value.step.value.event p.value.step.value.out q.value.step.value.out ≡ false)
 IsNotTold (ended.Unfinished u f) r = r ≡ refusal_of f
 IsNotTold ended.CutOff r = r ≡ NotConnected
 
@@ -78,9 +78,9 @@ pub record CarriesOn (old : Part) (t : Told) (new : Part) : Type 0 where
   pub call : SessionCall
   pub was : old.latest ≡ Some call
   pub line : Line
-  pub answers : IsAnswer call.event call.out line t
+  pub answers : IsAnswerTo call.event call.out line t
   pub list : calls new ≡ old.before ++ called_as call.event call.out (Some line) ∷ []
-  pub over : IsOver line new
+  pub over : EndsLive line new
 
 -- a commit that was told was seen to be stable
 abbrev pub IsSeenBy : ℕ → Told → Type 0

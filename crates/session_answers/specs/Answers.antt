@@ -21,12 +21,12 @@ use Rattle.session_answers.specs.Unfinished.{IsUnfinished, bar}
 use Rattle.session_answers.specs.Why.{IsWhy, why_of}
 
 -- one call more, with what it came to and the line that was told of it
-abbrev pub Adds : Event → Out → Option Line → Part → Part → Type 0
-Adds e o line old new = calls new ≡ calls old ++ called_as e o line ∷ []
+abbrev pub AddsCall : Event → Out → Option Line → Part → Part → Type 0
+AddsCall e o line old new = calls new ≡ calls old ++ called_as e o line ∷ []
 
 -- the same of a call of the transaction that is alive
-abbrev pub AddsTo : (ℕ → Event) → Out → Option Line → Part → Part → Type 0
-AddsTo of o line old new = (t : ℕ) × (old.live ≡ Some t) × Adds (of t) o line old new
+abbrev pub AddsLiveCall : (ℕ → Event) → Out → Option Line → Part → Part → Type 0
+AddsLiveCall of o line old new = (t : ℕ) × (old.live ≡ Some t) × AddsCall (of t) o line old new
 
 -- a call with an entry that is refused, since it wasn't answered
 pub record Refused (e : Event) (was : Option ℕ) (old : Part) (r : Refusal) (new : Part) : Type 0 where
@@ -61,8 +61,8 @@ abbrev pub RefusedBegin : Part → Refusal → Part → Type 0
 RefusedBegin old r new = ((r ≡ Full) × IsSecond old new) ⊎ Refused event.Begin old.live old r new
 
 -- after such a line no transaction is alive
-abbrev pub IsOver : Line → Part → Type 0
-IsOver line new = ends line ≡ true → new.live ≡ None
+abbrev pub EndsLive : Line → Part → Type 0
+EndsLive line new = ends line ≡ true → new.live ≡ None
 
 -- the call stands in the journal, and nothing was told of it yet
 pub record CallsUntold (row : Shelves) (e : Event) (old : Part) (token : Slot) (new : Part) : Type 0 where
@@ -73,17 +73,17 @@ pub record CallsUntold (row : Shelves) (e : Event) (old : Part) (token : Slot) (
 -- how a call with an entry ended, by what it adds to the session's list
 abbrev pub Ends : Shelves → Event → Part → Ended → Part → Type 0
 Ends row e old (ended.AtOnce p) new =
-    Shown row p × (is_pending p.value.step.value.out ≡ false) × Adds e p.value.step.value.out None old new
+    Shown row p × (is_pending p.value.step.value.out ≡ false) × AddsCall e p.value.step.value.out None old new
     × LeavesLive old.live p.value.step.value.out new
 Ends row e old (ended.Told p q) new =
     Shown row p × Shown row q × (is_pending p.value.step.value.out ≡ true)
-    × ((t : ℕ) × ((line : Line) × (line_to t q.value.step.value.out ≡ Some line) × IsOver line new
-    × Adds e p.value.step.value.out (Some line) old new))
+    × ((t : ℕ) × ((line : Line) × (line_to t q.value.step.value.out ≡ Some line) × EndsLive line new
+    × AddsCall e p.value.step.value.out (Some line) old new))
 Ends row e old (ended.Unfinished u f) new =
     (is_pending u.call.value.step.value.out ≡ true) × (new.live ≡ old.live) × (is_some new.live ≡ true)
-    × Adds e u.call.value.step.value.out None old new × EndsWithFailure [] new.failures f
+    × AddsCall e u.call.value.step.value.out None old new × EndsWithFailure [] new.failures f
 Ends row e old ended.CutOff new =
-    (o : Out) × (is_pending o ≡ true) × (new.live ≡ None) × Adds e o None old new
+    (o : Out) × (is_pending o ≡ true) × (new.live ≡ None) × AddsCall e o None old new
 
 -- the tokens of the entries that it names are shown by the row
 abbrev pub AreShown : Shelves → Ended → Type 0
@@ -93,11 +93,11 @@ AreShown row (ended.Unfinished u f) = ⊤
 AreShown row ended.CutOff = ⊤
 
 -- why it is refused, where neither its entry nor what was told of it answers it
-abbrev pub IsRefusal : (Out → Bool) → (Out → Out → Bool) → Ended → Refusal → Type 0
-IsRefusal done told (ended.AtOnce p) r = (r ≡ why_of p.value.step.value.out) × (done p.value.step.value.out ≡ false)
-IsRefusal done told (ended.Told p q) r = (r ≡ NotConnected) × (told p.value.step.value.out q.value.step.value.out ≡ false)
-IsRefusal done told (ended.Unfinished u f) r = r ≡ refusal_of f
-IsRefusal done told ended.CutOff r = r ≡ NotConnected
+abbrev pub IsRefusalOf : (Out → Bool) → (Out → Out → Bool) → Ended → Refusal → Type 0
+IsRefusalOf done told (ended.AtOnce p) r = (r ≡ why_of p.value.step.value.out) × (done p.value.step.value.out ≡ false)
+IsRefusalOf done told (ended.Told p q) r = (r ≡ NotConnected) × (told p.value.step.value.out q.value.step.value.out ≡ false)
+IsRefusalOf done told (ended.Unfinished u f) r = r ≡ refusal_of f
+IsRefusalOf done told ended.CutOff r = r ≡ NotConnected
 
 -- it came to this, and was told of by that
 abbrev pub IsToldAs : (Out → Type 0) → (Out → Type 0) → Ended → Type 0

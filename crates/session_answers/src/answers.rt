@@ -2,8 +2,8 @@
 ghost use Rattle.std.specs.Prelude.{◌≡◌, ℕ, false, IfOk, IfErr};
 ghost use Rattle.node_laws.specs.declared.event.Out as outs;
 ghost use Rattle.node_laws.specs.declared.event.Out.TheVariants as out;
-ghost use Rattle.session_answers.specs.Again.{IsGiven, IsNotTold, IsToldSo, is_given};
-ghost use Rattle.session_answers.specs.Answers.{AreShown, IsRefusal, IsToldAs, IsAtOnce, TellsCommit};
+ghost use Rattle.session_answers.specs.Again.{AnswersWith, IsNotTold, IsToldSo, answers_with};
+ghost use Rattle.session_answers.specs.Answers.{AreShown, IsRefusalOf, IsToldAs, IsAtOnce, TellsCommit};
 ghost use Rattle.pool_journal.specs.Errands.{is_commit_logged};
 ghost use Rattle.session_answers.specs.Asking.{both, is_begun, is_saved, is_logged, is_asked, is_rolling, gives_answer, gives_row, gives_rows, gives_back, gives_rolled_back, gives_commit};
 
@@ -22,7 +22,7 @@ pub fn answer_told<J: Naming>(hall: &Hall<J>, ended: &Ended) -> Result<Answer, R
     ensures told { IfOk result (λ answer.
         IsToldAs (λ (o : outs.Out). (n : ℕ) × (o ≡ out.Logged n))
         (λ (o : outs.Out). (u : ℕ) × (o ≡ out.Answered u answer)) ended.now) }
-    ensures refused { IfErr result (λ r. IsRefusal (λ (o : outs.Out). false)
+    ensures refused { IfErr result (λ r. IsRefusalOf (λ (o : outs.Out). false)
         (λ (o : outs.Out) (line : outs.Out). both (is_logged o) (gives_answer line)) ended.now r) }
 {
     let row = hall.row();
@@ -54,7 +54,7 @@ pub fn row_told<J: Naming>(hall: &Hall<J>, ended: &Ended) -> Result<Option<Value
     ensures told { IfOk result (λ value.
         IsToldAs (λ (o : outs.Out). (n : ℕ) × (o ≡ out.Asked n))
         (λ (o : outs.Out). (u : ℕ) × (o ≡ out.Row u value)) ended.now) }
-    ensures refused { IfErr result (λ r. IsRefusal (λ (o : outs.Out). false)
+    ensures refused { IfErr result (λ r. IsRefusalOf (λ (o : outs.Out). false)
         (λ (o : outs.Out) (line : outs.Out). both (is_asked o) (gives_row line)) ended.now r) }
 {
     let row = hall.row();
@@ -86,7 +86,7 @@ pub fn rows_told<J: Naming, R: Wait>(rt: &R, hall: &Hall<J>, ended: &Ended) -> R
     ensures told { IfOk result (λ rows.
         IsToldAs (λ (o : outs.Out). (n : ℕ) × (o ≡ out.Asked n))
         (λ (o : outs.Out). (u : ℕ) × (o ≡ out.Rows u rows)) ended.now) }
-    ensures refused { IfErr result (λ r. IsRefusal (λ (o : outs.Out). false)
+    ensures refused { IfErr result (λ r. IsRefusalOf (λ (o : outs.Out). false)
         (λ (o : outs.Out) (line : outs.Out). both (is_asked o) (gives_rows line)) ended.now r) }
 {
     let row = hall.row();
@@ -118,7 +118,7 @@ pub fn back_told<J: Naming>(hall: &Hall<J>, ended: &Ended) -> Result<(), Refusal
     ensures told { IfOk result (λ done.
         IsToldAs (λ (o : outs.Out). o ≡ out.RollingBack)
         (λ (o : outs.Out). (u : ℕ) × (s : ℕ) × (o ≡ out.Back u s)) ended.now) }
-    ensures refused { IfErr result (λ r. IsRefusal (λ (o : outs.Out). false)
+    ensures refused { IfErr result (λ r. IsRefusalOf (λ (o : outs.Out). false)
         (λ (o : outs.Out) (line : outs.Out). both (is_rolling o) (gives_back line)) ended.now r) }
 {
     let row = hall.row();
@@ -150,7 +150,7 @@ pub fn rollback_told<J: Naming>(hall: &Hall<J>, ended: &Ended) -> Result<(), Ref
     ensures told { IfOk result (λ done.
         IsToldAs (λ (o : outs.Out). o ≡ out.RollingBack)
         (λ (o : outs.Out). (u : ℕ) × (o ≡ out.RolledBack u)) ended.now) }
-    ensures refused { IfErr result (λ r. IsRefusal (λ (o : outs.Out). false)
+    ensures refused { IfErr result (λ r. IsRefusalOf (λ (o : outs.Out). false)
         (λ (o : outs.Out) (line : outs.Out). both (is_rolling o) (gives_rolled_back line)) ended.now r) }
 {
     let row = hall.row();
@@ -180,7 +180,7 @@ pub fn commit_told<J: Naming>(hall: &Hall<J>, ended: &Ended) -> Result<u64, Refu
     ensures told { IfOk result (λ number.
         IsToldAs (λ (o : outs.Out). o ≡ out.CommitLogged number)
         TellsCommit ended.now) }
-    ensures refused { IfErr result (λ r. IsRefusal (λ (o : outs.Out). false)
+    ensures refused { IfErr result (λ r. IsRefusalOf (λ (o : outs.Out). false)
         (λ (o : outs.Out) (line : outs.Out). both (is_commit_logged o) (gives_commit line)) ended.now r) }
 {
     let row = hall.row();
@@ -229,9 +229,9 @@ pub fn carried_told<J: Naming, R: Wait>(
 
 // What is told of a call by a line.
 fn told_of<R: Wait>(rt: &R, event: &Event, call: &KeptOut, line: &KeptOut) -> Result<Told, Refusal>
-    ensures told { IfOk result (IsGiven event.now call.now line.now) }
+    ensures told { IfOk result (AnswersWith event.now call.now line.now) }
     ensures refused { IfErr result (λ r. (r ≡ Refusal.NotConnected)
-        × (is_given event.now call.now line.now ≡ false)) }
+        × (answers_with event.now call.now line.now ≡ false)) }
 {
     match event {
         Event::Act { .. } => Ok(Told::Answer(answer_of(call, line)?)),
@@ -254,7 +254,7 @@ fn told_of<R: Wait>(rt: &R, event: &Event, call: &KeptOut, line: &KeptOut) -> Re
 pub fn saved<J: Naming>(hall: &Hall<J>, ended: &Ended) -> Result<u64, Refusal>
     requires { AreShown J.entries ended.now }
     ensures told { IfOk result (λ s. IsAtOnce (out.Saved s) ended.now) }
-    ensures refused { IfErr result (λ r. IsRefusal is_saved (λ (o : outs.Out) (line : outs.Out). false) ended.now r) }
+    ensures refused { IfErr result (λ r. IsRefusalOf is_saved (λ (o : outs.Out) (line : outs.Out). false) ended.now r) }
 {
     match ended {
         Ended::CutOff | Ended::Told(_, _) => Err(Refusal::NotConnected),
@@ -273,7 +273,7 @@ pub fn saved<J: Naming>(hall: &Hall<J>, ended: &Ended) -> Result<u64, Refusal>
 pub fn begun<J: Naming>(hall: &Hall<J>, ended: &Ended) -> Result<u64, Refusal>
     requires { AreShown J.entries ended.now }
     ensures told { IfOk result (λ t. IsAtOnce (out.Begun t) ended.now) }
-    ensures refused { IfErr result (λ r. IsRefusal is_begun (λ (o : outs.Out) (line : outs.Out). false) ended.now r) }
+    ensures refused { IfErr result (λ r. IsRefusalOf is_begun (λ (o : outs.Out) (line : outs.Out). false) ended.now r) }
 {
     match ended {
         Ended::CutOff | Ended::Told(_, _) => Err(Refusal::NotConnected),

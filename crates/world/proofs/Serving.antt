@@ -11,12 +11,12 @@ use Rattle.node_laws.specs.Component.{DcSide}
 use Rattle.node_laws.specs.Halves.{node_of, also, IsNextNumber, DcServes}
 use Rattle.node_laws.specs.Node.{StepsTo}
 use Rattle.world.specs.Sent.{told_in, told_after, told_last}
-use Rattle.world.specs.Served.{Served}
+use Rattle.world.specs.Served.{ServesRequest}
 
 -- the component served it, and its reply, if there is one, was appended
 pub served : (old new : DcSide) (before after : List Reply) (next : Option ℕ) (q : Request) (o : Out)
     (reply : Option Reply) → IsNextNumber before next → DcServes old next (Some q) o reply new
-    → after ≡ also before reply → Served old before q o new after
+    → after ≡ also before reply → ServesRequest old before q o new after
 served old new before after next q o reply number serves is i tc requests found =
     subst (λ (rs : List Reply). StepsTo (node_of tc old requests before) (event.Request i) o (node_of tc new requests rs))
     (sym is) (serves.gives i tc requests before number found)

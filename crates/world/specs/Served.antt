@@ -10,7 +10,7 @@ use Rattle.node_laws.specs.Messages.{message_at}
 use Rattle.node_laws.specs.Node.{StepsTo}
 
 -- a node that has sent this request, under whatever number, may serve it so
-abbrev pub Served : DcSide → List Reply → Request → Out → DcSide → List Reply → Type 0
-Served old replies q o new after =
+abbrev pub ServesRequest : DcSide → List Reply → Request → Out → DcSide → List Reply → Type 0
+ServesRequest old replies q o new after =
     (i : ℕ) (tc : TcSide) (requests : List Request) → message_at requests i ≡ Some q
     → StepsTo (node_of tc old requests replies) (event.Request i) o (node_of tc new requests after)

@@ -10,8 +10,8 @@ use Rattle.codec.specs.Reading.{op_at}
 use Rattle.codec.specs.Requests.{IsRequest}
 
 -- the operation that bytes spell; another where they spell none
-unfoldable pub op_in : List ℕ → Op
-op_in bytes = (unwrap_or (op_at bytes) (Delete [], [])).0
+unfoldable pub op_spelled : List ℕ → Op
+op_spelled bytes = (unwrap_or (op_at bytes) (Delete [], [])).0
 
 -- bytes spell the operation of a request with these numbers, which has a spelling
 abbrev pub SpellsOp : Asking → List ℕ → Type 0

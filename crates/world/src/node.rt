@@ -10,7 +10,7 @@ ghost use Rattle.record_key.specs.Lent.{op_lent};
 ghost use Rattle.codec.specs.Parted.{get_of, request_to};
 ghost use Rattle.codec.specs.Requests.{IsRequest};
 ghost use Rattle.dc_core.specs.Serves.{MayAsk};
-ghost use Rattle.world.specs.Served.{Served};
+ghost use Rattle.world.specs.Served.{ServesRequest};
 
 use crate::attempt::attempt;
 use crate::parts::{GetParts, PerformParts, RowParts};
@@ -246,7 +246,7 @@ fn serve_get<D: CrashLog, P: CrashPages>(
     out: &mut Out,
 )
     requires spelled { IsRequest (get_of reading key.now) }
-    ensures { Served dc.old replies.old.messages (get_of reading key.now) out.new dc.new replies.new.messages }
+    ensures { ServesRequest dc.old replies.old.messages (get_of reading key.now) out.new dc.new replies.new.messages }
 {
     let next = replies.next();
     let value = attempt!(out, dc.get(reading.session, key));
@@ -265,7 +265,7 @@ fn serve_op<D: CrashLog, P: CrashPages>(
 )
     requires spelled { IsRequest (request_to asking (op_lent op.now)) }
     requires owed { MayAsk dc.old.dc (request_to asking (op_lent op.now)) }
-    ensures { Served dc.old replies.old.messages (request_to asking (op_lent op.now)) out.new dc.new replies.new.messages }
+    ensures { ServesRequest dc.old replies.old.messages (request_to asking (op_lent op.now)) out.new dc.new replies.new.messages }
 {
     let next = replies.next();
     let _replied = dc.perform(asking, op, next, replies, out);
@@ -280,7 +280,7 @@ fn serve_other<D: CrashLog, P: CrashPages>(
 )
     requires spelled { IsRequest request.now }
     requires owed { MayAsk dc.old.dc request.now }
-    ensures { Served dc.old replies.old.messages request.now out.new dc.new replies.new.messages }
+    ensures { ServesRequest dc.old replies.old.messages request.now out.new dc.new replies.new.messages }
 {
     let next = replies.next();
     let mut reply = None;

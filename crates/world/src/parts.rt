@@ -9,7 +9,7 @@ ghost use Rattle.codec.specs.Frames.{frame};
 ghost use Rattle.codec.specs.Parted.{get_of, request_to};
 ghost use Rattle.codec.specs.Replies.{IsOrdered};
 ghost use Rattle.codec.specs.Requests.{HasRequestNumbers};
-ghost use Rattle.world.specs.SpelledOp.{op_in, SpellsOp};
+ghost use Rattle.world.specs.SpelledOp.{op_spelled, SpellsOp};
 
 use crate::message::Message;
 use codec::{
@@ -85,7 +85,7 @@ pub(crate) struct PerformParts<'a> {
 }
 
 impl<'a> Parts<Request> for PerformParts<'a> {
-    ghost message = { λ parts. request_to parts.asking (op_in parts.op.now) };
+    ghost message = { λ parts. request_to parts.asking (op_spelled parts.op.now) };
 
     ghost may_put = { λ parts. SpellsOp parts.asking parts.op.now };
 

@@ -1,7 +1,7 @@
 use Rattle.std.proofs.Common.{◌≡◌, map, true, List, ℕ, [], sym, subst, refl}
 use Rattle.clap.specs.Simple.{App, HasMatchesOf, subcommand_of, subcommand_rows_of}
 use Rattle.clap.specs.Faults.{fault_of, is_simple_and_free}
-use Rattle.command_line.specs.Asked.{MayAsk}
+use Rattle.command_line.specs.Asked.{MayAskFor}
 use Rattle.command_line.specs.CommandLine.{command_line}
 use Rattle.command_line.proofs.Subcommands.{words_taken}
 use Rattle.command_line.proofs.task.choose.Goals as goal
@@ -15,7 +15,7 @@ task_of-requires g c =
     let m = c.in-Ok.matches in
     let same : subcommand_rows_of m ≡ subcommand_of command_line texts =
     (subst (λ (app : App). HasMatchesOf app texts m) c.in_ok-command_line.ensures c.in-Ok.ensures.matches refl).1 in
-    subst MayAsk (sym same) (words_taken texts none)
+    subst MayAskFor (sym same) (words_taken texts none)
 
 pub returns-in-Ok-clause-fault : goal.returns-in-Ok-clause-fault
 returns-in-Ok-clause-fault g c =

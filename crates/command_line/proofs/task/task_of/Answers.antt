@@ -6,20 +6,20 @@ use Rattle.clap.specs.Simple.{subcommand_rows_of}
 use Rattle.clap.specs.Walk.{Row, Text, one_of, rows_of}
 use Rattle.clap.proofs.WalkLemmas.{first_value-rows, one_text-rows}
 use Rattle.command_line.specs.declared.task.Task.TheVariants as task
-use Rattle.command_line.specs.Asked.{Asks, IsNamed, IsSet}
+use Rattle.command_line.specs.Asked.{AsksFor, IsGivenText, IsSet}
 use Rattle.command_line.proofs.task.task_of.Goals as goal
 
 -- the words name `run` with these rows, in which the flag is set and the folder is named so
 asks_run : (s : Option (Text × List Row)) (rows : List Row) (set : Bool) (store : Option (Bor Text))
     → option_map (λ p. p.0) s ≡ Some (codes "run") → option_map (λ p. p.1) s ≡ Some rows
-    → IsSet rows (codes "continue") set → IsNamed rows (codes "store") store → Asks s (task.Run set store)
+    → IsSet rows (codes "continue") set → IsGivenText rows (codes "store") store → AsksFor s (task.Run set store)
 asks_run None rows set store name same is named = absurd (cc name)
 asks_run (Some s) rows set store name same is named =
     let own : s.0 ≡ codes "run" = cc name in
     let its : s.1 ≡ rows = cc same in (
       own,
       subst (λ (r : List Row). IsSet r (codes "continue") set) (sym its) is,
-      subst (λ (r : List Row). IsNamed r (codes "store") store) (sym its) named,
+      subst (λ (r : List Row). IsGivenText r (codes "store") store) (sym its) named,
     )
 
 pub returns-clause-asks : goal.returns-clause-asks

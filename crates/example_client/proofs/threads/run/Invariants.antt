@@ -1,5 +1,5 @@
 use Rattle.std.proofs.Common.{length}
-use Rattle.worker_pool.specs.Opened.{name_of}
+use Rattle.worker_pool.specs.Opened.{tie_name}
 use Rattle.example_client.proofs.threads.run.Given as goal
 
 -- the engine's names are those of what was just opened
@@ -8,6 +8,6 @@ ghosts-count g a = record {
   start = a.opened.start;
   entries = a.opened.entries;
   marks = a.opened.marks;
-  names = name_of a.opened;
+  names = tie_name a.opened;
   sessions = length a.opened.sessions;
 }

@@ -1,6 +1,6 @@
 use Rattle.std.proofs.Common.{sym, ap, ◌∙◌}
 use Rattle.record_key.specs.Table.{value_after}
-use Rattle.log_replay.specs.Kept.{value_in}
+use Rattle.log_replay.specs.Kept.{value_held}
 use Rattle.log_replay.proofs.Applied.{applied}
 use Rattle.log_replay.proofs.values.apply.Goals as goal
 
@@ -9,5 +9,5 @@ returns-clause-applied c =
     applied c.args.values.now c.put.new.values c.args.op.now c.key-2.result.now c.value_after.result c.key-2.ensures
     (c.value_after.ensures
     ∙ ap (value_after c.args.op.now) (c.value_at-old.ensures
-    ∙ ap (value_in c.args.values.now) (c.key.ensures ∙ sym c.key-2.ensures)))
+    ∙ ap (value_held c.args.values.now) (c.key.ensures ∙ sym c.key-2.ensures)))
     c.in_ok-put.ensures.put

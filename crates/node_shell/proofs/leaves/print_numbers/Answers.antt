@@ -3,7 +3,7 @@ use Rattle.std.proofs.lemmas.List.{get_or-drop, length-drop}
 use Rattle.std.specs.Io.KnownBytes.{Appends}
 use Rattle.record_key.specs.declared.entry.Entry.{Entry}
 use Rattle.node_shell.proofs.Printing.{prints_err, cut_at_item, item_more, items_all}
-use Rattle.node_shell.specs.Stored.{next_number}
+use Rattle.node_shell.specs.Stored.{further_number}
 use Rattle.node_shell.proofs.leaves.print_numbers.Goals as goal
 
 -- behind the first it stands one place earlier
@@ -19,7 +19,7 @@ returns-in_err-print_next g c =
     let within : c.loop-at.at - 1 < length es =
     omega (arith, c.loop-at-test.true, c.len-at-end.ensures, c.loop-at.invariant.0, length-drop 1 c.args.entries.now) in
     prints_err _ _ _ c.from_residual.result c.from_residual.ensures.0
-    (cut_at_item next_number _ _ _ es (c.loop-at.at - 1) c.entry.result c.entry.result within
+    (cut_at_item further_number _ _ _ es (c.loop-at.at - 1) c.entry.result c.entry.result within
     (behind c.args.entries.now c.loop-at.at c.entry.result c.loop-at.invariant.0 c.entry.ensures) c.loop-at.invariant.1
     c.in_err-print_next.ensures)
 
@@ -32,9 +32,9 @@ loop-at-preserved g c =
     let next : i + 1 ≡ c.loop-at.at + 1 - 1 = omega (arith, c.loop-at.invariant.0) in
     let Written : ℕ → Type 0 =
     λ n. Appends (g.W.Write.contents c.args.writer.now) (g.W.Write.contents c.print_next.new.writer)
-    (flat_map next_number (take n es)) in (
+    (flat_map further_number (take n es)) in (
       omega arith,
-      subst Written next (item_more next_number _ _ _ es i c.entry.result c.entry.result within
+      subst Written next (item_more further_number _ _ _ es i c.entry.result c.entry.result within
           (behind c.args.entries.now c.loop-at.at c.entry.result c.loop-at.invariant.0 c.entry.ensures)
           c.loop-at.invariant.1
           c.in_ok-print_next.ensures),
@@ -42,5 +42,5 @@ loop-at-preserved g c =
 
 pub returns : goal.returns
 returns g c =
-    items_all next_number _ _ (drop 1 c.args.entries.now) (c.loop-at.at - 1)
+    items_all further_number _ _ (drop 1 c.args.entries.now) (c.loop-at.at - 1)
     (omega (arith, c.loop-at-test.false, c.len-at-end.ensures, length-drop 1 c.args.entries.now)) c.loop-at.invariant.1

@@ -1,6 +1,6 @@
 use Rattle.std.proofs.Common.{Ok, Err, refl, sym, ap, ◌∙◌, inl, inr, length, reverse, arith}
 use Rattle.std.proofs.lemmas.List.{length-reverse}
-use Rattle.jakumshe.specs.Calls.{first_of, lists}
+use Rattle.jakumshe.specs.Calls.{first_end, lists}
 use Rattle.jakumshe.specs.declared.fault.Fault.TheVariants.{Refused}
 use Rattle.jakumshe.proofs.node.Node.read.Goals as goal
 
@@ -17,7 +17,7 @@ returns-in-Err-rows c = record {
   tells = inr (
     c.in-Ok.told.items,
     c.in-Ok.ensures.told,
-    sym c.in-Err-rows.ensures.none ∙ ap (first_of (lists c.args.txn)) c.deref.ensures.value,
+    sym c.in-Err-rows.ensures.none ∙ ap (first_end (lists c.args.txn)) c.deref.ensures.value,
   );
   keeps = (ap (λ rows. rows.items) c.in-Ok.ensures.rows, refl);
 }
@@ -28,7 +28,7 @@ returns-in-Ok-to_rows c = record {
   tells = inr (
     c.in-Ok.told.items,
     c.in-Ok.ensures.told,
-    sym c.in-Ok-rows.ensures.found ∙ ap (first_of (lists c.args.txn)) c.deref.ensures.value,
+    sym c.in-Ok-rows.ensures.found ∙ ap (first_end (lists c.args.txn)) c.deref.ensures.value,
   );
   keeps = inl (
     c.reverse.ensures.items ∙ ap reverse c.in-Ok-to_rows.ensures,
@@ -49,7 +49,7 @@ returns c = record {
   tells = inr (
     c.in-Ok.told.items,
     c.in-Ok.ensures.told,
-    sym c.in-Ok-rows.ensures.found ∙ ap (first_of (lists c.args.txn)) c.deref.ensures.value,
+    sym c.in-Ok-rows.ensures.found ∙ ap (first_end (lists c.args.txn)) c.deref.ensures.value,
   );
   keeps = inr (ap (λ rows. rows.items) c.in-Ok.ensures.rows, refl);
 }
