@@ -57,6 +57,13 @@ pub record Keeps (size : ℕ → ℕ) (stable_end records more bytes n : ℕ) : 
 abbrev pub tc_size : List Record → ℕ → ℕ
 tc_size log n = length (records.spelled (beginning log n))
 
+-- a crash that is asked for so many whole records and so many bytes of the next one leaves the first bytes of what isn't
+-- stable, so many, or all of it
+abbrev pub LeavesBytes : TcView → ℕ → ℕ → ℕ → Type 0
+LeavesBytes old kept more bytes =
+    bytes_left (tc_size old.log) old.stable (length old.log) more bytes
+    ≡ lesser (tc_size old.log old.stable + kept) (tc_size old.log (length old.log))
+
 -- what isn't on the device is gone
 abbrev pub TcCrashesTo : TcSide → ℕ → ℕ → Bool → TcSide → Type 0
 TcCrashesTo old more bytes true new =

@@ -144,28 +144,28 @@ pub record IsAnswered (w : TcView) (dc : DcView) (x : Source) (s n : ℕ) (a : O
   pub own : (IsWaiting w.phase → ⊥) → s ≡ w.session → IsAnswerIn (own w) n a
 
 -- a row is what the log gives at the key, and rows are those of a table that the log gives in the range
-abbrev pub IsValue : List Record → Option Bytes → Span → Type 0
-IsValue log v (Key k) = v ≡ value_on k log
-IsValue log v _ = Unit {0}
+abbrev pub IsValueInSpan : List Record → Option Bytes → Span → Type 0
+IsValueInSpan log v (Key k) = v ≡ value_on k log
+IsValueInSpan log v _ = Unit {0}
 
 -- rows that the log gives in a range: those of a table that has at each key there what the log gives
-pub record AreRowsOf (log : List Record) (rows : List (Bytes × Bytes)) (r : keys.Range) : Type 0 where
+pub record AreRowsInRange (log : List Record) (rows : List (Bytes × Bytes)) (r : keys.Range) : Type 0 where
   pub table : Table
   pub rows_are : rows ≡ rows_in r table
   pub values : (k : Bytes) → has_key r k ≡ true → map.get table k ≡ value_on k log
 
-abbrev pub AreRows : List Record → List (Bytes × Bytes) → Span → Type 0
-AreRows log rows (Range low high) = AreRowsOf log rows (range_of (Range low high))
-AreRows log rows _ = Unit {0}
+abbrev pub AreRowsInSpan : List Record → List (Bytes × Bytes) → Span → Type 0
+AreRowsInSpan log rows (Range low high) = AreRowsInRange log rows (range_of (Range low high))
+AreRowsInSpan log rows _ = Unit {0}
 
 -- what was replied stays true: also a row or rows, while they are waited for; and that all leaves are low
-abbrev pub IsGiven : TcView → DcView → Source → Reply → Type 0
-IsGiven w dc x (says.Connected s) = s ≤ dc.stored
-IsGiven w dc x (says.Answered s n a) = IsAnswered w dc x s n a
-IsGiven w dc x (says.Row s n v) = IsReadTrue w s n (IsValue w.log v)
-IsGiven w dc x (says.Rows s n rows) = IsReadTrue w s n (AreRows w.log rows)
-IsGiven w dc x (says.Checkpointed s l) = IsChecked l dc.system
-IsGiven w dc x (says.RedoEnded s) = InSession dc s (dc.redo ≡ false)
+abbrev pub StaysTrue : TcView → DcView → Source → Reply → Type 0
+StaysTrue w dc x (says.Connected s) = s ≤ dc.stored
+StaysTrue w dc x (says.Answered s n a) = IsAnswered w dc x s n a
+StaysTrue w dc x (says.Row s n v) = IsReadTrue w s n (IsValueInSpan w.log v)
+StaysTrue w dc x (says.Rows s n rows) = IsReadTrue w s n (AreRowsInSpan w.log rows)
+StaysTrue w dc x (says.Checkpointed s l) = IsChecked l dc.system
+StaysTrue w dc x (says.RedoEnded s) = InSession dc s (dc.redo ≡ false)
 
 -- until redo ends nothing is requested anew
 abbrev pub AreBefore : List Record → ℕ → Type 0
@@ -219,7 +219,7 @@ pub record IsKept (w : NodeView) : Type 0 where
   -- 7. what was ever sent stands
   pub sent : AllByRecursion (IsSent w.tc w.dc source) w.requests
   -- 8. what was ever replied stays true
-  pub given : AllByRecursion (IsGiven w.tc w.dc source) w.replies
+  pub given : AllByRecursion (StaysTrue w.tc w.dc source) w.replies
   -- 9. the data component has taken only sessions that the other has started, and while clients are served the same
   pub sessions : AreSessions w.tc.stable w.tc.session w.tc.phase w.tc.log w.dc
   -- 10. every leaf, also after any crash, has captured what redo doesn't send again

@@ -1,6 +1,6 @@
 //! How much of a log a crash keeps.
 ghost use Rattle.std.specs.Prelude.{◌≡◌, ◌≤◌, ◌+◌, length};
-ghost use Rattle.node_laws.specs.Component.{lesser, bytes_left, tc_size, dc_size};
+ghost use Rattle.node_laws.specs.Component.{lesser, bytes_left, tc_size, dc_size, LeavesBytes};
 
 use dc_core::Dc;
 use stable::{LogDevice, PageDevice};
@@ -26,6 +26,26 @@ pub fn bytes_kept_of<D: LogDevice>(tc: &Tc<D>, frames: u64, bytes: u64) -> usize
     let whole = whole_of(tc.stable_end(), frames, records);
     let end = tc.end_of(whole);
     with_part(end, tc.end_of(after(whole, records)), bytes)
+}
+
+/// What a crash is to be asked for, so that the first bytes of what isn't stable of the log are left, so many, or all of
+/// it: how many whole records, and how many bytes of the next one.
+pub fn cut_after<D: LogDevice>(tc: &Tc<D>, kept: u64) -> (u64, u64)
+    ensures { LeavesBytes tc.now kept result.0 result.1 }
+{
+    tc.kept();
+    let (stable, records) = (tc.stable_end(), tc.records());
+    let start = tc.end_of(stable);
+    let (mut number, mut end) = (stable, start);
+    while number < records {
+        let next = tc.end_of(number + 1);
+        if kept < (next - start) as u64 {
+            return (number - stable, kept - (end - start) as u64);
+        }
+        number += 1;
+        end = next;
+    }
+    (number - stable, kept - (end - start) as u64)
 }
 
 /// How many whole records are kept.

@@ -12,8 +12,10 @@ ghost use Rattle.tc_core.specs.Replies.{is_of_another};
 ghost use Rattle.tc_core.specs.LowWater.{IsGreatestAnnounced};
 ghost use Rattle.tc_core.specs.Recovery.{SendsOp};
 ghost use Rattle.tc_core.specs.TcView.{TcView, fresh_tc};
+ghost use Rattle.node_laws.specs.Component.{LeavesBytes};
 ghost use Rattle.node_laws.specs.Halves.{of_tc, moves, TcLeads, TcCalls, TcTakes};
 
+use crate::crashing::cut_after;
 use crate::put::put;
 use crate::transaction_component::TransactionComponent;
 use codec::{GivenAnswer, Reply, Request};
@@ -346,15 +348,15 @@ impl<D: CrashLog> TcSide<D> {
         Ok(self.running()?.records())
     }
 
-    /// How many bytes of the log the first records have, so many.
-    pub fn end_of(&self, count: u64) -> Result<usize, Refusal>
-        requires { count ≤ length self.now.tc.log }
-        ensures end { IfOk result (λ end. end ≡ length (spelled (beginning self.now.tc.log count))) }
+    /// What a crash is to be asked for, so that the first bytes of what isn't stable of the log are left, so many, or all
+    /// of it: how many whole records, and how many bytes of the next one.
+    pub fn cut_after(&self, kept: u64) -> Result<(u64, u64), Refusal>
+        ensures leaves { IfOk result (λ cut. LeavesBytes self.now.tc kept cut.0 cut.1) }
         ensures up { OnOk result (self.now.up ≡ true) }
         ensures refused { IfErr result (λ refusal. refusal ≡ Refusal.NotConnected) }
         ensures down { OnErr result (self.now.up ≡ false) }
     {
-        Ok(self.running()?.end_of(count))
+        Ok(cut_after(self.running()?, kept))
     }
 
     /// The bytes of the stable records.

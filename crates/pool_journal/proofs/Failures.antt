@@ -3,7 +3,7 @@ use Rattle.std.proofs.Common.{List, [], ◌∷◌, ◌++◌, Option, Some, None,
 use Rattle.std.proofs.lemmas.List.{append-nil}
 use Rattle.node_laws.specs.Halves.{also}
 use Rattle.pool_journal.specs.Errands.{FailsSince}
-use Rattle.pool_journal.specs.Kept.{later}
+use Rattle.pool_journal.specs.Kept.{later_failure}
 use Rattle.pool_journal.specs.declared.failure.Failure.{Failure}
 
 pub none_since : (fs : List Failure) → FailsSince fs fs None
@@ -21,7 +21,7 @@ pub forgotten : (old mid : List Failure) (u : Option Failure) → FailsSince old
 forgotten old mid None is = is
 forgotten old mid (Some f) (xs, x) = (xs ++ f ∷ [], x ∙ append_assoc old xs (f ∷ []))
 
-pub failed_on : (old mid : List Failure) (u o : Option Failure) → FailsSince old mid u → FailsSince old (also mid o) (later u o)
+pub failed_on : (old mid : List Failure) (u o : Option Failure) → FailsSince old mid u → FailsSince old (also mid o) (later_failure u o)
 failed_on old mid u None is = is
 failed_on old mid u (Some f) is =
     let n = forgotten old mid u is in

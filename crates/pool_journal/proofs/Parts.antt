@@ -10,7 +10,7 @@ use Rattle.pool_journal.specs.declared.failure.Failure.{Failure}
 use Rattle.pool_journal.specs.declared.place.Place.{Place}
 use Rattle.pool_journal.specs.declared.step.Step.{Step}
 use Rattle.pool_journal.specs.Errands.{FailsSince, errand_after, errand_of, fails}
-use Rattle.pool_journal.specs.Kept.{calls_of, PlaceKept, IsLine, later, with_told, place_heard, place_worked}
+use Rattle.pool_journal.specs.Kept.{calls_of, PlaceKept, IsLine, later_failure, with_told, place_heard, place_worked}
 use Rattle.pool_journal.specs.Sessions.{SessionCall, Part, with_latest, calls, line_to, line_for, is_pending, awaits, told, told_of, pending, line_of, live_after, ends, called_as, hears, worked, cut, cuts_off, heard, called, next_part, part_after, no_part, part_of, IsClosed, IsLeft, IsSameCall}
 use Rattle.pool_journal.specs.Callers.{IsGrown}
 use Rattle.pool_journal.specs.Slots.{Slot, Shown, IsShown}
@@ -317,7 +317,7 @@ module _ {J : Type 0} (row : Shelves) where
         line = k.line;
         errand = λ i. errand_after (k.live i) (k.errand i) e o;
         failed =
-            subst (λ (u : Option Failure). FailsSince before (also part.failures f) (later p.failed u)) (sym same)
+            subst (λ (u : Option Failure). FailsSince before (also part.failures f) (later_failure p.failed u)) (sym same)
             (failed_on before part.failures p.failed f k.failed);
       }
 

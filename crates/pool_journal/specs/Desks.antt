@@ -44,7 +44,7 @@ pub record DcDeskKept (start : Start) (names : ℕ → ℕ) (seen : View) (state
   pub gives : GivesDc start seen.steps state
 
 -- it was asked to tend its leaves, and had nothing to do
-pub record Rests (old new : DcSide) : Type 0 where
+pub record TendsNothing (old new : DcSide) : Type 0 where
   pub nothing : DcLeads old None event.Tend None out.Nothing None new
   pub same : new ≡ old
 

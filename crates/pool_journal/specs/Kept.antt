@@ -57,9 +57,9 @@ is_end is.Line = false
 is_end is.Nothing = false
 
 -- what is told by a line, if there is one
-abbrev pub kind_of : Option Line → Told
-kind_of None = is.Nothing
-kind_of (Some line) = cond (ends line) is.End is.Line
+abbrev pub line_kind : Option Line → Told
+line_kind None = is.Nothing
+line_kind (Some line) = cond (ends line) is.End is.Line
 
 -- a place that is told something
 abbrev pub told_kind : {J : Type 0} → Told → Slot → Place J → Place J
@@ -78,16 +78,16 @@ with_told (Some line) token p = record p {
   line = cond p.awaits (Some token) p.line;
 }
 
--- the later of two failures, if there are any
-abbrev pub later : Option Failure → Option Failure → Option Failure
-later was None = was
-later was (Some f) = Some f
+-- the later_failure of two failures, if there are any
+abbrev pub later_failure : Option Failure → Option Failure → Option Failure
+later_failure was None = was
+later_failure was (Some f) = Some f
 
 -- what a place is after a step that may have been made for its transaction
 abbrev pub place_worked : {J : Type 0} → Event → Out → Place J → Place J
 place_worked e o p = record p {
   errand = errand_after p.live p.errand e o;
-  failed = later p.failed (fails p.live p.errand e o);
+  failed = later_failure p.failed (fails p.live p.errand e o);
 }
 
 abbrev pub place_heard : {J : Type 0} → Event → Out → Slot → Place J → Place J

@@ -20,20 +20,20 @@ kept_event (kept.Reply j) = event.Reply j
 kept_event (kept.Other e) = e.value
 
 -- it is told by its kind and one number at most
-abbrev pub is_brief : Event → Bool
-is_brief event.Begin = true
-is_brief (event.Commit t) = true
-is_brief event.Force = true
-is_brief event.Tell = true
-is_brief (event.LowWater l) = true
-is_brief (event.Send t) = true
-is_brief (event.Undo t) = true
-is_brief event.Tend = true
-is_brief (event.Request i) = true
-is_brief (event.Reply j) = true
-is_brief _ = false
+abbrev pub is_brief_event : Event → Bool
+is_brief_event event.Begin = true
+is_brief_event (event.Commit t) = true
+is_brief_event event.Force = true
+is_brief_event event.Tell = true
+is_brief_event (event.LowWater l) = true
+is_brief_event (event.Send t) = true
+is_brief_event (event.Undo t) = true
+is_brief_event event.Tend = true
+is_brief_event (event.Request i) = true
+is_brief_event (event.Reply j) = true
+is_brief_event _ = false
 
 -- no box holds what is brief
-abbrev pub BoxesOthers : Kept → Type 0
-BoxesOthers (kept.Other e) = is_brief e.value ≡ false
-BoxesOthers _ = ⊤
+abbrev pub BoxesOtherEvents : Kept → Type 0
+BoxesOtherEvents (kept.Other e) = is_brief_event e.value ≡ false
+BoxesOtherEvents _ = ⊤

@@ -23,23 +23,23 @@ kept_out (kept.Refused r) = out.Refused r
 kept_out (kept.Other o) = o.value
 
 -- it is told by its kind and one number or reason
-abbrev pub is_brief : Out → Bool
-is_brief (out.Begun t) = true
-is_brief (out.Logged n) = true
-is_brief out.RollingBack = true
-is_brief (out.CommitLogged n) = true
-is_brief out.Nothing = true
-is_brief (out.Compensated n) = true
-is_brief (out.RolledBack t) = true
-is_brief (out.Sent i) = true
-is_brief (out.Replied j) = true
-is_brief out.Noted = true
-is_brief (out.Asked n) = true
-is_brief (out.Undone t) = true
-is_brief (out.Refused r) = true
-is_brief _ = false
+abbrev pub is_brief_out : Out → Bool
+is_brief_out (out.Begun t) = true
+is_brief_out (out.Logged n) = true
+is_brief_out out.RollingBack = true
+is_brief_out (out.CommitLogged n) = true
+is_brief_out out.Nothing = true
+is_brief_out (out.Compensated n) = true
+is_brief_out (out.RolledBack t) = true
+is_brief_out (out.Sent i) = true
+is_brief_out (out.Replied j) = true
+is_brief_out out.Noted = true
+is_brief_out (out.Asked n) = true
+is_brief_out (out.Undone t) = true
+is_brief_out (out.Refused r) = true
+is_brief_out _ = false
 
 -- no box holds what is brief
-abbrev pub BoxesOthers : OutForm → Type 0
-BoxesOthers (kept.Other o) = is_brief o.value ≡ false
-BoxesOthers _ = ⊤
+abbrev pub BoxesOtherOuts : OutForm → Type 0
+BoxesOtherOuts (kept.Other o) = is_brief_out o.value ≡ false
+BoxesOtherOuts _ = ⊤

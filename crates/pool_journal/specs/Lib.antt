@@ -2,6 +2,7 @@ pub mod Steps
 pub mod Sessions
 pub mod Slots
 pub mod Views
+pub mod Witnessed
 pub mod Kept
 pub mod Callers
 pub mod Desks

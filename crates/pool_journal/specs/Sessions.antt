@@ -1,7 +1,7 @@
 -- A session's part of the entries: its calls, in order, each with its output and the first line told of it; and what the
 -- steps that were made for the latest of them failed by.
 use Rattle.std.specs.Prelude.{◌≡◌, ◌⊎◌, ℕ, ◌==◌, Bool, true, false, cond, List, [], ◌∷◌, ◌++◌, Option, Some, None}
-use Rattle.std.specs.List.{list_any}
+use Rattle.history.specs.History.{is_among}
 use Rattle.history.specs.ListMachine.{Line, TellsAnswer, TellsRow, TellsRows, TellsBack, TellsRolledBack, TellsCommitted, TellsLost}
 use Rattle.node_laws.specs.declared.event.Event.{Event}
 use Rattle.node_laws.specs.declared.event.Event.TheVariants as event
@@ -39,9 +39,6 @@ calls part = with_latest part.before part.latest
 abbrev pub calls_as : Option ℕ → ℕ → Bool
 calls_as None s = false
 calls_as (Some t) s = t == s
-
-abbrev pub is_among : ℕ → List ℕ → Bool
-is_among t us = list_any (λ u. u == t) us
 
 abbrev pub only_if : Bool → Line → Option Line
 only_if true line = Some line

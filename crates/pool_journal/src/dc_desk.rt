@@ -1,14 +1,16 @@
 //! What lies under the lock of the data component.
-ghost use Rattle.std.specs.Prelude.{◌≡◌, ◌+◌, false, None, Some, IfOk, IfErr, IfSome, IfNone};
+ghost use Rattle.std.specs.Prelude.{◌≡◌, ◌+◌, true, false, None, Some, IfOk, IfErr, IfSome, IfNone, OnOk, OnErr};
 ghost use Rattle.std.specs.Option.{option_copied};
 ghost use Rattle.node_laws.specs.Component as sides;
 ghost use Rattle.node_laws.specs.declared.event.Event.TheVariants as event;
 ghost use Rattle.node_laws.specs.declared.event.Out.TheVariants as out;
 ghost use Rattle.node_laws.specs.Halves.{of_tc, DcLeads, MayDc, IsInNode};
+ghost use Rattle.node_laws.specs.Messages.{message_at};
 ghost use Rattle.pool_journal.specs.Ending.{EndsWith};
-ghost use Rattle.pool_journal.specs.Desks.{delivers, Rests};
+ghost use Rattle.pool_journal.specs.Desks.{delivers, TendsNothing};
 ghost use Rattle.pool_journal.specs.Slots.{Shown};
-ghost use Rattle.pool_journal.specs.Steps.{GivesDc, dc_start, count};
+ghost use Rattle.pool_journal.specs.Steps.{GivesDc, dc_start, count, requests};
+ghost use Rattle.pool_journal.specs.Witnessed.{AreWitnessed};
 
 use crate::entry::Entry;
 use crate::gate::Gate;
@@ -75,9 +77,10 @@ impl<J: Naming, D: CrashLog, P: CrashPages> DcDesk<J, D, P> {
 
     /// What is found under the lock is what the entries give up to the last one that it has seen.
     pub fn kept(&self)
-        ensures { GivesDc J.start self.now.steps self.now.state }
+        ensures gives { GivesDc J.start self.now.steps self.now.state }
+        ensures shown { AreWitnessed J.entries self.now.steps }
     {
-        let _ = &self.side;
+        self.visitor.kept();
     }
 
     /// Copies of the records, where it runs, which some run of the node through all entries ends with. Refused NoMemory.
@@ -105,12 +108,17 @@ impl<J: Naming, D: CrashLog, P: CrashPages> DcDesk<J, D, P> {
     }
 
     /// The session that runs. Refused NotConnected where the component is down.
-    pub fn session(&self) -> Result<u64, Refusal> {
+    pub fn session(&self) -> Result<u64, Refusal>
+        ensures session { IfOk result (λ session. session ≡ self.now.state.side.dc.session) }
+        ensures up { OnOk result (self.now.state.side.up ≡ true) }
+        ensures refused { IfErr result (λ refusal. refusal ≡ Refusal.NotConnected) }
+        ensures down { OnErr result (self.now.state.side.up ≡ false) }
+    {
         self.side.session()
     }
 
     /// Serves the request of this number, if the journal holds it as sent, and enters that. The journal's lock is free
-    /// while the request is served.
+    /// while the request is served. Unsent where nothing that the desk has seen then sent it.
     pub fn serve<G: Gate, R: Wait>(
         &mut self,
         rt: &R,
@@ -121,6 +129,8 @@ impl<J: Naming, D: CrashLog, P: CrashPages> DcDesk<J, D, P> {
     ) -> Result<Pushed<Entry>, Unsent>
         requires row { row.now ≡ J.entries }
         ensures shown { IfOk result (λ token. Shown J.entries token) }
+        ensures event { IfOk result (λ token. token.value.step.value.event ≡ event.Request number) }
+        ensures unsent { OnErr result (message_at (requests self.new.steps) number ≡ None) }
     {
         let DcDesk {
             alloc,
@@ -146,7 +156,7 @@ impl<J: Naming, D: CrashLog, P: CrashPages> DcDesk<J, D, P> {
         requires row { row.now ≡ J.entries }
         ensures shown { IfSome result (λ token. Shown J.entries token) }
         ensures event { IfSome result (λ token. token.value.step.value.event ≡ event.Tend) }
-        ensures rests { IfNone result (Rests self.old.state.side self.new.state.side) }
+        ensures rests { IfNone result (TendsNothing self.old.state.side self.new.state.side) }
     {
         let DcDesk {
             alloc,

@@ -279,6 +279,7 @@ impl<J: Naming> Journal<J> {
         requires enters { (n : TcState) × EntersTc J.start visitor.old.steps step.value n }
         ensures shown { Shown J.entries result }
         ensures value { result.value.step.value ≡ step.value }
+        ensures before { result.value.before.steps ≡ self.old }
         ensures entered { self.new ≡ self.old ++ step.value ∷ [] }
         ensures visitor { visitor.new ≡ record { name = visitor.old.name; steps = self.new } }
         ensures sees { Sees is_tc visitor.old.steps self.old }

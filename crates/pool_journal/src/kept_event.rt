@@ -38,7 +38,7 @@ enum Kept {
 impl Model for KeptEvent {
     ghost use Rattle.std.specs.Coded.{codes};
     ghost use Rattle.node_laws.specs.declared.event.Event.{Event};
-    ghost use Rattle.pool_journal.specs.KeptEvents.{kept_event, BoxesOthers};
+    ghost use Rattle.pool_journal.specs.KeptEvents.{kept_event, BoxesOtherEvents};
 
     ghost Value = { Event };
 
@@ -46,7 +46,7 @@ impl Model for KeptEvent {
 
     ghost view = { λ k. kept_event k.inside };
 
-    ghost invariant = { λ k. BoxesOthers k.inside };
+    ghost invariant = { λ k. BoxesOtherEvents k.inside };
 }
 
 impl KeptEvent {

@@ -2,8 +2,8 @@
 ghost use Rattle.std.specs.Prelude.{◌≡◌, true, IfSome, IfNone};
 ghost use Rattle.pool_journal.specs.Errands.{errand_of, sent_on};
 ghost use Rattle.pool_journal.specs.Failing.{failure_of};
-ghost use Rattle.pool_journal.specs.Kept.{kind_of};
-ghost use Rattle.pool_journal.specs.KeptOuts.{kept_out, is_brief, BoxesOthers};
+ghost use Rattle.pool_journal.specs.Kept.{line_kind};
+ghost use Rattle.pool_journal.specs.KeptOuts.{kept_out, is_brief_out, BoxesOtherOuts};
 ghost use Rattle.pool_journal.specs.Lending.{lent};
 ghost use Rattle.pool_journal.specs.Marking.{if_sent, tells_commit};
 ghost use Rattle.pool_journal.specs.Sessions.{is_pending, line_to, live_after};
@@ -47,7 +47,7 @@ pub enum OutForm {
 impl Model for KeptOut {
     ghost use Rattle.std.specs.Coded.{codes};
     ghost use Rattle.node_laws.specs.declared.event.Out.{Out};
-    ghost use Rattle.pool_journal.specs.KeptOuts.{kept_out, BoxesOthers};
+    ghost use Rattle.pool_journal.specs.KeptOuts.{kept_out, BoxesOtherOuts};
 
     ghost Value = { Out };
 
@@ -55,7 +55,7 @@ impl Model for KeptOut {
 
     ghost view = { λ k. kept_out k.inside };
 
-    ghost invariant = { λ k. BoxesOthers k.inside };
+    ghost invariant = { λ k. BoxesOtherOuts k.inside };
 }
 
 impl KeptOut {
@@ -85,7 +85,7 @@ impl KeptOut {
     /// The form in which it is kept.
     pub fn form(&self) -> &OutForm
         ensures out { kept_out result.now ≡ self.now }
-        ensures others { BoxesOthers result.now }
+        ensures others { BoxesOtherOuts result.now }
     {
         &self.inside
     }
@@ -93,7 +93,7 @@ impl KeptOut {
     /// The output itself, where it stands in a box: else it is told by its form.
     pub fn other(&self) -> Option<&Out>
         ensures boxed { IfSome result (λ out. out.now ≡ self.now) }
-        ensures brief { IfNone result (is_brief self.now ≡ true) }
+        ensures brief { IfNone result (is_brief_out self.now ≡ true) }
     {
         match &self.inside {
             OutForm::Other(out) => Some(out),
@@ -125,7 +125,7 @@ impl KeptOut {
 
     /// What it tells a transaction.
     pub(crate) fn told_to(&self, txn: u64) -> Told
-        ensures { result ≡ kind_of (line_to txn self.now) }
+        ensures { result ≡ line_kind (line_to txn self.now) }
     {
         match &self.inside {
             OutForm::RolledBack(of) => kind_if(*of == txn, Told::End),

@@ -1,15 +1,17 @@
 //! What lies under the lock of the transaction component.
-ghost use Rattle.std.specs.Prelude.{◌≡◌, ◌+◌, ◌≤◌, ℕ, true, false, max, IsTrue, Option, None, Some, IfOk, IfSome};
+ghost use Rattle.std.specs.Prelude.{◌≡◌, ◌+◌, ◌≤◌, ℕ, true, false, max, IsTrue, Option, None, Some, IfOk, OnErr, IfSome};
 ghost use Rattle.marks.specs.Seen.{raiser, reader};
 ghost use Rattle.tc_core.specs.Kept.{IsTc};
 ghost use Rattle.tc_core.specs.Replies.{is_of_another};
 ghost use Rattle.node_laws.specs.declared.event.Event.TheVariants as event;
 ghost use Rattle.node_laws.specs.Halves.{of_tc, TcLeads, TcTakes};
+ghost use Rattle.node_laws.specs.Messages.{message_at};
 ghost use Rattle.pool_journal.specs.Desks.{delivers};
 ghost use Rattle.pool_journal.specs.Marking.{announced, low_of, IsLowOf};
 ghost use Rattle.pool_journal.specs.Sessions.{IsCalled, IsClosed};
 ghost use Rattle.pool_journal.specs.Slots.{Shown};
-ghost use Rattle.pool_journal.specs.Steps.{GivesTc, tc_start, count};
+ghost use Rattle.pool_journal.specs.Steps.{GivesTc, tc_start, count, replies};
+ghost use Rattle.pool_journal.specs.Witnessed.{AreWitnessed, IsEntered, LeftBytes, RunsIn};
 
 use crate::caller::Caller;
 use crate::copying::{copied, lent};
@@ -104,8 +106,9 @@ impl<J: Naming, D: CrashLog> TcDesk<J, D> {
         ensures gives { GivesTc J.start self.now.steps self.now.state }
         ensures stable { self.now.seat.stable ≤ self.now.state.side.tc.stable }
         ensures low { self.now.seat.low ≡ announced self.now.steps }
+        ensures shown { AreWitnessed J.entries self.now.steps }
     {
-        let _ = &self.side;
+        self.visitor.kept();
     }
 
     /// A step that is no client's call and delivers nothing, and its entry.
@@ -120,6 +123,7 @@ impl<J: Naming, D: CrashLog> TcDesk<J, D> {
         requires plain { delivers event ≡ false }
         ensures shown { Shown J.entries result }
         ensures event { result.value.step.value.event ≡ event }
+        ensures stood { GivesTc J.start result.value.before.steps self.old.state }
     {
         let TcDesk {
             alloc,
@@ -164,7 +168,8 @@ impl<J: Naming, D: CrashLog> TcDesk<J, D> {
         hold(rt, journal).call(rt, hall.row(), visitor, step, caller)
     }
 
-    /// Takes the reply of this number, if the journal holds it as given, and enters that.
+    /// Takes the reply of this number, if the journal holds it as given, and enters that. Unsent where nothing that the
+    /// desk has seen then gave it.
     pub fn take<R: Wait>(
         &mut self,
         rt: &R,
@@ -173,6 +178,8 @@ impl<J: Naming, D: CrashLog> TcDesk<J, D> {
         number: u64,
     ) -> Result<Pushed<Entry>, Unsent>
         ensures shown { IfOk result (λ token. Shown J.entries token) }
+        ensures event { IfOk result (λ token. token.value.step.value.event ≡ event.Reply number) }
+        ensures unsent { OnErr result (message_at (replies self.new.steps) number ≡ None) }
     {
         let TcDesk {
             alloc,
@@ -183,7 +190,7 @@ impl<J: Naming, D: CrashLog> TcDesk<J, D> {
         } = self;
         let given = hold(rt, journal).look_reply(hall.row(), visitor, number)?;
         let Some(reply) = hall.row().value(&given).given() else {
-            return Err(Unsent);
+            unreachable!();
         };
         let step = taken(rt, *alloc, side, number, reply);
         mark(hall.marks(), seat, side, &step);
@@ -198,6 +205,7 @@ impl<J: Naming, D: CrashLog> TcDesk<J, D> {
         hall: &Hall<J>,
         journal: &Mutex<Journal<J>>,
     ) -> (Option<Pushed<Entry>>, Option<Pushed<Entry>>)
+        ensures forced { IsEntered J.entries event.Force }
         ensures tell { IfSome result.0 (λ token. Shown J.entries token) }
         ensures low { IfSome result.1 (λ token. Shown J.entries token) }
     {
@@ -210,14 +218,10 @@ impl<J: Naming, D: CrashLog> TcDesk<J, D> {
     }
 
     /// The component crashes, and keeps so many bytes of what isn't stable of its log; and the entry of that.
-    pub fn crash<R: Wait>(
-        &mut self,
-        rt: &R,
-        hall: &Hall<J>,
-        journal: &Mutex<Journal<J>>,
-        kept: u64,
-    ) {
-        let (frames, bytes) = frames_in(&self.side, kept);
+    pub fn crash<R: Wait>(&mut self, rt: &R, hall: &Hall<J>, journal: &Mutex<Journal<J>>, kept: u64)
+        ensures { LeftBytes J.start J.entries kept }
+    {
+        let (frames, bytes) = self.side.cut_after(kept).unwrap_or((0, kept));
         self.enter(rt, hall, journal, Event::CrashTc { frames, bytes });
     }
 
@@ -249,7 +253,10 @@ impl<J: Naming, D: CrashLog> TcDesk<J, D> {
     }
 
     /// What is to be done next to bring the component up, beside a data component that runs this session.
-    pub fn next(&self, session: u64) -> Next {
+    pub fn next(&self, session: u64) -> Next
+        ensures nothing { result ≡ Next.Nothing → RunsIn session self.now.state.side }
+        ensures left { RunsIn session self.now.state.side → result ≡ Next.Nothing }
+    {
         let (Ok(phase), Ok(own), Ok(stable)) = (
             self.side.phase(),
             self.side.session(),
@@ -268,26 +275,6 @@ impl<J: Naming, D: CrashLog> TcDesk<J, D> {
             _ => Next::Recover,
         }
     }
-}
-
-// How many whole records stand in the first `kept` bytes of what isn't stable, and how many bytes of them are left for
-// the next one.
-fn frames_in<D: CrashLog>(side: &TcSide<D>, kept: u64) -> (u64, u64) {
-    side.kept();
-    let (Ok(stable), Ok(records)) = (side.stable_end(), side.records()) else {
-        return (0, kept);
-    };
-    let start = side.end_of(stable).unwrap_or(0);
-    let (mut frames, mut whole) = (0, 0);
-    for number in stable..records {
-        let size = side.end_of(number + 1).unwrap_or(0).saturating_sub(start) as u64;
-        if size > kept {
-            break;
-        }
-        frames = number + 1 - stable;
-        whole = size;
-    }
-    (frames, kept.saturating_sub(whole))
 }
 
 // The same reply again. Where memory for it is refused it is tried again until it is made.

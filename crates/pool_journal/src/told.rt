@@ -1,7 +1,8 @@
 //! What an output tells a transaction.
 ghost use Rattle.std.specs.Prelude.{◌≡◌, cond};
-ghost use Rattle.pool_journal.specs.Kept.{kind_of};
-ghost use Rattle.pool_journal.specs.Sessions.{line_to, is_among};
+ghost use Rattle.pool_journal.specs.Kept.{line_kind};
+ghost use Rattle.history.specs.History.{is_among};
+ghost use Rattle.pool_journal.specs.Sessions.{line_to};
 
 use node_laws::Out;
 use tc_core::Committed;
@@ -31,7 +32,7 @@ fn is_among(txn: u64, committed: &Committed) -> bool
 
 /// What an output tells a transaction.
 pub(crate) fn told_to(txn: u64, out: &Out) -> Told
-    ensures { result ≡ kind_of (line_to txn out.now) }
+    ensures { result ≡ line_kind (line_to txn out.now) }
 {
     match out {
         Out::Answered { txn: of, .. } | Out::Row { txn: of, .. } | Out::Rows { txn: of, .. } => {

@@ -3,6 +3,7 @@ ghost use Rattle.std.specs.Prelude.{◌≡◌, []};
 ghost use Rattle.tie.specs.Tied.{tied_at};
 ghost use Rattle.pool_journal.specs.Slots.{seen, IsShown, spot};
 ghost use Rattle.pool_journal.specs.Views.{view_of};
+ghost use Rattle.pool_journal.specs.Witnessed.{AreWitnessed};
 
 use crate::entry::Entry;
 use crate::naming::Naming;
@@ -135,5 +136,12 @@ impl<J: Naming> Visitor<J> {
             last: None,
             of: PhantomData,
         }
+    }
+
+    /// What it has seen are the steps up to an entry, or none.
+    pub fn kept(&self)
+        ensures { AreWitnessed J.entries self.now.steps }
+    {
+        let _ = &self.mark;
     }
 }

@@ -1,1 +1,2 @@
+mod Results
 pub mod Sharing

@@ -7,6 +7,7 @@ ghost use Rattle.node_laws.specs.Halves.{of_tc};
 ghost use Rattle.pool_journal.specs.Desks.{delivers};
 ghost use Rattle.pool_journal.specs.Sessions.{IsClosed};
 ghost use Rattle.pool_journal.specs.Slots.{Shown};
+ghost use Rattle.pool_journal.specs.Witnessed.{IsEntered, LeftBytes, TcRan};
 ghost use Rattle.session_answers.specs.Answers.{CallsUntold, IsUnasked, IsSecond};
 ghost use Rattle.session_answers.specs.Asking.{event_of};
 
@@ -51,6 +52,7 @@ impl<J: Naming, D: CrashLog> Entrance<J, D> {
         requires tc { of_tc event ≡ true }
         requires plain { delivers event ≡ false }
         ensures shown { Shown J.entries result }
+        ensures event { result.value.step.value.event ≡ event }
     {
         hold(rt, &self.tc).enter(rt, &self.board.hall, &self.board.journal, event)
     }
@@ -96,6 +98,7 @@ impl<J: Naming, D: CrashLog> Entrance<J, D> {
 
     /// Makes the log stable; says how much is stable, and announces what is answered: the entries of both.
     pub(crate) fn force<R: Wait>(&self, rt: &R) -> (Option<Pushed<Entry>>, Option<Pushed<Entry>>)
+        ensures forced { IsEntered J.entries event.Force }
         ensures tell { IfSome result.0 (λ token. Shown J.entries token) }
         ensures low { IfSome result.1 (λ token. Shown J.entries token) }
     {
@@ -123,6 +126,7 @@ impl<J: Naming, D: CrashLog> Entrance<J, D> {
     /// The reply of this number is taken, where the journal holds it as given: the entry.
     pub(crate) fn take<R: Wait>(&self, rt: &R, number: u64) -> Option<Pushed<Entry>>
         ensures shown { IfSome result (λ token. Shown J.entries token) }
+        ensures event { IfSome result (λ token. token.value.step.value.event ≡ event.Reply number) }
     {
         hold(rt, &self.tc)
             .take(rt, &self.board.hall, &self.board.journal, number)
@@ -130,12 +134,18 @@ impl<J: Naming, D: CrashLog> Entrance<J, D> {
     }
 
     /// What is to be done next to bring the component up, beside a data component that runs this session.
-    pub(crate) fn next<R: Wait>(&self, rt: &R, session: u64) -> Next {
-        self.tc.lock(rt).next(session)
+    pub(crate) fn next<R: Wait>(&self, rt: &R, session: u64) -> Next
+        ensures { result ≡ Next.Nothing → TcRan J.start J.entries session }
+    {
+        let desk = self.tc.lock(rt);
+        desk.kept();
+        desk.next(session)
     }
 
     /// The component crashes, and keeps so many bytes of what isn't stable of its log.
-    pub fn crash<R: Wait>(&self, rt: &R, kept: u64) {
+    pub fn crash<R: Wait>(&self, rt: &R, kept: u64)
+        ensures { LeftBytes J.start J.entries kept }
+    {
         self.tc
             .lock(rt)
             .crash(rt, &self.board.hall, &self.board.journal, kept);

@@ -1,8 +1,9 @@
 //! How the components are brought up, and in one session.
-ghost use Rattle.std.specs.Prelude.{◌≡◌, true, false, IfErr};
+ghost use Rattle.std.specs.Prelude.{◌≡◌, true, false, IfOk, IfErr, OnOk, IfSome};
 ghost use Rattle.node_laws.specs.Halves.{of_tc};
 ghost use Rattle.shared_node.specs.Outages.{IsOutage};
 ghost use Rattle.pool_journal.specs.Desks.{delivers};
+ghost use Rattle.pool_journal.specs.Witnessed.{DcRan, WereUp};
 
 use crate::shared::Shared;
 use codec::{Reply, Request};
@@ -23,7 +24,8 @@ impl Gate for Nobody {
 
 // Whether a round goes on that came to this. Refused for want of memory or numbers, and where a device failed.
 fn passed(out: &KeptOut) -> Result<bool, Refusal>
-    ensures { IfErr result IsOutage }
+    ensures refused { IfErr result IsOutage }
+    ensures goes_on { IfOk result (λ left. left ≡ true) }
 {
     match out.form() {
         OutForm::Refused(Refusal::NoMemory) => Err(Refusal::NoMemory),
@@ -37,20 +39,22 @@ impl<J: Naming, G, D: CrashLog, P: CrashPages> Shared<J, G, D, P> {
     /// Brings both components up, in one session, and undoes who was lost. Refused NoMemory, Device, NumbersSpent; what
     /// was done by then stands.
     pub fn bring_up<R: Wait>(&self, rt: &R) -> Result<(), Refusal>
-        ensures { IfErr result IsOutage }
+        ensures up { OnOk result (WereUp J.start J.entries) }
+        ensures refused { IfErr result IsOutage }
     {
         for _ in rt.forever() {
             if !self.round(rt)? {
-                break;
+                self.entrance.board.brought_up(rt);
+                return Ok(());
             }
         }
-        self.entrance.board.brought_up(rt);
-        Ok(())
+        unreachable!()
     }
 
     // One round, if one is left.
     fn round<R: Wait>(&self, rt: &R) -> Result<bool, Refusal>
-        ensures { IfErr result IsOutage }
+        ensures up { IfOk result (λ left. left ≡ false → WereUp J.start J.entries) }
+        ensures refused { IfErr result IsOutage }
     {
         let Some(session) = self.session(rt) else {
             return self.restart_dc(rt);
@@ -66,13 +70,18 @@ impl<J: Naming, G, D: CrashLog, P: CrashPages> Shared<J, G, D, P> {
     }
 
     // The session that the data component runs, where it isn't down.
-    fn session<R: Wait>(&self, rt: &R) -> Option<u64> {
-        self.dc.lock(rt).session().ok()
+    fn session<R: Wait>(&self, rt: &R) -> Option<u64>
+        ensures { IfSome result (DcRan J.start J.entries) }
+    {
+        let desk = self.dc.lock(rt);
+        desk.kept();
+        desk.session().ok()
     }
 
     // The data component is restarted.
     fn restart_dc<R: Wait>(&self, rt: &R) -> Result<bool, Refusal>
-        ensures { IfErr result IsOutage }
+        ensures refused { IfErr result IsOutage }
+        ensures goes_on { IfOk result (λ left. left ≡ true) }
     {
         let board = &self.entrance.board;
         let token = self
@@ -86,7 +95,8 @@ impl<J: Naming, G, D: CrashLog, P: CrashPages> Shared<J, G, D, P> {
     fn pass<R: Wait>(&self, rt: &R, event: Event) -> Result<bool, Refusal>
         requires tc { of_tc event ≡ true }
         requires plain { delivers event ≡ false }
-        ensures { IfErr result IsOutage }
+        ensures refused { IfErr result IsOutage }
+        ensures goes_on { IfOk result (λ left. left ≡ true) }
     {
         let token = self.entrance.enter(rt, event);
         passed(self.entrance.board.out(&token))
@@ -96,7 +106,8 @@ impl<J: Naming, G, D: CrashLog, P: CrashPages> Shared<J, G, D, P> {
     fn exchange_up<R: Wait>(&self, rt: &R, event: Event) -> Result<bool, Refusal>
         requires tc { of_tc event ≡ true }
         requires plain { delivers event ≡ false }
-        ensures { IfErr result IsOutage }
+        ensures refused { IfErr result IsOutage }
+        ensures goes_on { IfOk result (λ left. left ≡ true) }
     {
         let token = self.entrance.enter(rt, event);
         let out = self.entrance.board.out(&token);
@@ -108,7 +119,8 @@ impl<J: Naming, G, D: CrashLog, P: CrashPages> Shared<J, G, D, P> {
 
     // The request is served, and its reply taken.
     fn serve_up<R: Wait>(&self, rt: &R, number: u64) -> Result<bool, Refusal>
-        ensures { IfErr result IsOutage }
+        ensures refused { IfErr result IsOutage }
+        ensures goes_on { IfOk result (λ left. left ≡ true) }
     {
         let board = &self.entrance.board;
         let served = self

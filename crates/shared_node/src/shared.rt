@@ -1,4 +1,7 @@
 //! What the threads share, and what they do under its locks.
+ghost use Rattle.node_laws.specs.declared.event.Event.TheVariants as event;
+ghost use Rattle.pool_journal.specs.Witnessed.{IsEntered};
+
 use crate::board::Board;
 use crate::entrance::Entrance;
 use node_laws::Event;
@@ -42,7 +45,9 @@ impl<J: Naming, G, D: CrashLog, P: CrashPages> Shared<J, G, D, P> {
     }
 
     /// The data component crashes. Nothing is kept that isn't stable.
-    pub fn crash_dc<R: Wait>(&self, rt: &R) {
+    pub fn crash_dc<R: Wait>(&self, rt: &R)
+        ensures { IsEntered J.entries (event.CrashDc 0 0) }
+    {
         let board = &self.entrance.board;
         let event = Event::CrashDc {
             frames: 0,

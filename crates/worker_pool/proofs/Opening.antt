@@ -6,7 +6,7 @@ use Rattle.boxcar.specs.Table.{Shelves}
 use Rattle.pool_journal.specs.declared.place.Place.{Place}
 use Rattle.worker_pool.specs.Closing.{below}
 use Rattle.pool_journal.specs.Kept.{PlaceKept, PlacesKept}
-use Rattle.worker_pool.specs.Opened.{OpenedView, IsNamed, name_at, name_of}
+use Rattle.worker_pool.specs.Opened.{OpenedView, IsNamed, name_at, tie_name}
 
 -- the ties from a place on have the names from there on
 abbrev pub TiedFrom : (ℕ → ℕ) → ℕ → List ℕ → Type 0
@@ -62,7 +62,7 @@ name_there (x ∷ names) zero n at = let same : x ≡ n = cc (at) in sym same
 name_there (x ∷ names) (suc k) n at = name_there names k n at
 
 -- the names that it has are names that it goes by
-pub named_as : (o : OpenedView) → IsNamed o o.start o.entries o.marks (name_of o) (length o.sessions)
+pub named_as : (o : OpenedView) → IsNamed o o.start o.entries o.marks (tie_name o) (length o.sessions)
 named_as o = record {
   start_is = refl;
   row = refl;
@@ -70,6 +70,6 @@ named_as o = record {
   tc = refl;
   dc = refl;
   tied = λ k n at.
-      let same : suc (suc k) ≡ k + 2 = omega arith in name_there o.sessions k n at ∙ ap (name_of o) same;
+      let same : suc (suc k) ≡ k + 2 = omega arith in name_there o.sessions k n at ∙ ap (tie_name o) same;
   count = refl;
 }

@@ -35,7 +35,7 @@ abbrev pub ReadsMarks : TableId → Chair → Type 0
 ReadsMarks marks chair = chair.seat ≡ reader marks 0 0
 
 -- nobody has raised the marks, and a journal may begin with the components
-pub record IsOpened (marks : TableId) (seat : Seen) (chairs : List Chair) (start : Start) : Type 0 where
+pub record IsOpenedWith (marks : TableId) (seat : Seen) (chairs : List Chair) (start : Start) : Type 0 where
   pub raises : seat ≡ raiser marks 0 0
   pub reads : AllByRecursion (ReadsMarks marks) chairs
   pub starts : IsStart start
@@ -62,5 +62,5 @@ name_at (n ∷ ns) zero = n
 name_at (n ∷ ns) (suc k) = name_at ns k
 
 -- the name of each tie: of the components first, then of the sessions
-abbrev pub name_of : OpenedView → ℕ → ℕ
-name_of o k = name_at (o.tc ∷ o.dc ∷ o.sessions) k
+abbrev pub tie_name : OpenedView → ℕ → ℕ
+tie_name o k = name_at (o.tc ∷ o.dc ∷ o.sessions) k

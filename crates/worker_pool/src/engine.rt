@@ -1,7 +1,9 @@
 //! An engine: the workers over what the threads share.
-ghost use Rattle.std.specs.Prelude.{◌≡◌, ◌<◌, IfOk, IfErr, length};
+ghost use Rattle.std.specs.Prelude.{◌≡◌, ◌<◌, IfOk, IfErr, OnOk, length};
 ghost use Rattle.std.specs.List.{AllByRecursion};
+ghost use Rattle.node_laws.specs.declared.event.Event.TheVariants as event;
 ghost use Rattle.pool_journal.specs.Ending.{EndsWith};
+ghost use Rattle.pool_journal.specs.Witnessed.{IsEntered, LeftBytes, WereUp};
 ghost use Rattle.shared_node.specs.Outages.{IsOutage};
 ghost use Rattle.worker_pool.specs.Closing.{IsFresh, IsKeptBy, below, numbers_named};
 ghost use Rattle.worker_pool.specs.Opened.{IsNamed};
@@ -100,6 +102,7 @@ where
         requires named { IsNamed opened J.start J.entries J.marks J.names J.sessions }
         requires some { 0 < workers }
         ensures refused { IfErr result IsOutage }
+        ensures up { OnOk result (WereUp J.start J.entries) }
         ensures fresh { IfOk result (λ made. AllByRecursion (IsFresh J.marks) made.1.items) }
         ensures numbers { IfOk result (λ made. numbers_named made.1.items ≡ below (length opened.sessions)) }
     {
@@ -130,7 +133,8 @@ where
         jobs: Receiver<Job>,
         count: usize,
     ) -> Result<(), Refusal>
-        ensures { IfErr result IsOutage }
+        ensures refused { IfErr result IsOutage }
+        ensures up { OnOk result (WereUp J.start J.entries) }
     {
         for _ in 0..count {
             let worker = start(rt, Arc::try_clone(&self.shared)?, jobs.clone()?)?;
@@ -152,25 +156,32 @@ where
     }
 
     /// The data component crashes. Nothing is kept that isn't stable.
-    pub fn crash_dc<R: Wait>(&self, rt: &R) {
+    pub fn crash_dc<R: Wait>(&self, rt: &R)
+        ensures { IsEntered J.entries (event.CrashDc 0 0) }
+    {
         self.shared.crash_dc(rt);
     }
 
     /// The transaction component crashes, and every session's transaction is cut off. Of what isn't stable of the log so
     /// many bytes are kept, or all of it where it has fewer.
-    pub fn crash_tc<R: Wait>(&self, rt: &R, kept: u64) {
+    pub fn crash_tc<R: Wait>(&self, rt: &R, kept: u64)
+        ensures { LeftBytes J.start J.entries kept }
+    {
         self.shared.entrance().crash(rt, kept);
     }
 
     /// The call of this number, from now on, of the device of the transaction component's log fails.
-    pub fn fail_tc<R: Wait>(&self, rt: &R, call: u64) {
+    pub fn fail_tc<R: Wait>(&self, rt: &R, call: u64)
+        ensures { IsEntered J.entries (event.FailTc call) }
+    {
         self.shared.entrance().enter(rt, Event::FailTc { call });
     }
 
     /// Brings both components up, in one session, and undoes who was lost. Refused NoMemory, Device, NumbersSpent; what
     /// was done by then stands.
     pub fn restart<R: Wait>(&self, rt: &R) -> Result<(), Refusal>
-        ensures { IfErr result IsOutage }
+        ensures up { OnOk result (WereUp J.start J.entries) }
+        ensures refused { IfErr result IsOutage }
     {
         self.shared.bring_up(rt)
     }

@@ -122,7 +122,7 @@ impl<D: CrashLog, P: CrashPages> Model for Opened<D, P> {
     ghost use Rattle.boxcar.specs.Table.{shelves_coded};
     ghost use Rattle.record_key.specs.Table.{table_code};
     ghost use Rattle.system_txn.specs.SystemView.{pages_code};
-    ghost use Rattle.worker_pool.specs.Opened.{OpenedView, opened_as, IsOpened};
+    ghost use Rattle.worker_pool.specs.Opened.{OpenedView, opened_as, IsOpenedWith};
 
     ghost Value = { OpenedView };
 
@@ -131,7 +131,7 @@ impl<D: CrashLog, P: CrashPages> Model for Opened<D, P> {
     ghost view = { λ o. opened_as (record { tc = o.start.value.transactions; dc = o.start.value.data })
         o.start.value.row o.start.value.marks o.start.value.tc o.start.value.dc o.chairs.items };
 
-    ghost invariant = { λ o. IsOpened o.start.value.marks o.start.value.seat o.chairs.items
+    ghost invariant = { λ o. IsOpenedWith o.start.value.marks o.start.value.seat o.chairs.items
         (record { tc = o.start.value.transactions; dc = o.start.value.data }) };
 }
 

@@ -21,7 +21,7 @@ use Rattle.dc_core.specs.Serves.{runs}
 use Rattle.dc_core.specs.Tends.{may_merge}
 use Rattle.dc_core.specs.Kept.{IsDc}
 use Rattle.node_laws.specs.Node.{NodeView, with_dc}
-use Rattle.node_laws.specs.Kept.{IsKept, IsAnsweredBy, InSession, IsNext, IsSent, IsCaptured, IsAnswered, IsGiven, IsTrueTo, AreSessions, AnsweredAreCaptured, EarlierAreCaptured}
+use Rattle.node_laws.specs.Kept.{IsKept, IsAnsweredBy, InSession, IsNext, IsSent, IsCaptured, IsAnswered, StaysTrue, IsTrueTo, AreSessions, AnsweredAreCaptured, EarlierAreCaptured}
 use Rattle.node_laws.specs.Source.{Source, IsSource, own}
 use Rattle.node_laws.proofs.Invariant.ByNumber.{all_push}
 use Rattle.node_laws.proofs.Invariant.Keeps.{with_reply}
@@ -96,7 +96,7 @@ module _ (w : NodeView) (dc : DcView) (k : IsKept w) (c : Carries k.source.log w
     own = h.own;
   }
 
-  given_carried : (reply : Reply) → IsGiven w.tc w.dc x reply → IsGiven w.tc dc x reply
+  given_carried : (reply : Reply) → StaysTrue w.tc w.dc x reply → StaysTrue w.tc dc x reply
   given_carried (says.Connected s) h = omega (arith, h, c.stored)
   given_carried (says.Answered s n a) h = answered_carried s n a h
   given_carried (says.Row s m v) h = h
@@ -105,17 +105,17 @@ module _ (w : NodeView) (dc : DcView) (k : IsKept w) (c : Carries k.source.log w
   given_carried (says.RedoEnded s) h = carried s (w.dc.redo ≡ false) (dc.redo ≡ false) c.past h
 
   -- what is past redo now was, or its redo has ended
-  pub keeps_dc : (reply : Option Reply) → IfSome reply (IsGiven w.tc dc x) → IsDc dc → IsRecoverable dc.system
+  pub keeps_dc : (reply : Option Reply) → IfSome reply (StaysTrue w.tc dc x) → IsDc dc → IsRecoverable dc.system
       → IsTrueTo w.tc x dc.system
       → AllByRecursion (λ (p : Performance). Requests x.log p.number p.op) dc.performed
       → (may_merge dc ≡ true → AnsweredAreCaptured x.log w.dc) → dc.known ≤ x.sure
       → AreSessions w.tc.stable w.tc.session w.tc.phase w.tc.log dc → IsKept (replied w dc reply)
   keeps_dc reply given is recoverable true_to performed past known sessions = by reply given
     where
-      all : AllByRecursion (IsGiven w.tc dc x) w.replies
-      all = all_from (IsGiven w.tc w.dc x) (IsGiven w.tc dc x) given_carried w.replies k.given
+      all : AllByRecursion (StaysTrue w.tc dc x) w.replies
+      all = all_from (StaysTrue w.tc w.dc x) (StaysTrue w.tc dc x) given_carried w.replies k.given
 
-      kept : (replies : List Reply) → AllByRecursion (IsGiven w.tc dc x) replies
+      kept : (replies : List Reply) → AllByRecursion (StaysTrue w.tc dc x) replies
           → IsKept (record w { dc = dc; replies = replies })
       kept replies given = record {
         tc = k.tc;
@@ -136,10 +136,10 @@ module _ (w : NodeView) (dc : DcView) (k : IsKept w) (c : Carries k.source.log w
         quiet = k.quiet;
       }
 
-      by : (reply : Option Reply) → IfSome reply (IsGiven w.tc dc x) → IsKept (replied w dc reply)
+      by : (reply : Option Reply) → IfSome reply (StaysTrue w.tc dc x) → IsKept (replied w dc reply)
       by None none = kept w.replies all
       by (Some reply) given =
-          kept (w.replies ++ reply ∷ []) (all_push (IsGiven w.tc dc x) w.replies reply all given)
+          kept (w.replies ++ reply ∷ []) (all_push (StaysTrue w.tc dc x) w.replies reply all given)
 
 -- ---- a session was taken, or the data component has crashed: its leaves have their effects from the log itself
 
@@ -174,7 +174,7 @@ module _ (w : NodeView) (dc : DcView) (k : IsKept w) (a : StartsAnew w.dc dc) wh
   sent_past (asks.RedoEnd s) h = past s (AnsweredAreCaptured k.source.log w.dc) (AnsweredAreCaptured y.log dc) h
   sent_past (asks.StableEnd s stable) h = past s (stable ≤ k.source.sure) (stable ≤ y.sure) h
 
-  given_past : (reply : Reply) → IsGiven w.tc w.dc k.source reply → IsGiven w.tc dc y reply
+  given_past : (reply : Reply) → StaysTrue w.tc w.dc k.source reply → StaysTrue w.tc dc y reply
   given_past (says.Connected s) h = omega (arith, h, a.stored)
   given_past (says.Answered s n v) h = record {
     older = h.older;
@@ -186,17 +186,17 @@ module _ (w : NodeView) (dc : DcView) (k : IsKept w) (a : StartsAnew w.dc dc) wh
   given_past (says.Checkpointed s l) h = a.checks l h
   given_past (says.RedoEnded s) h = past s (w.dc.redo ≡ false) (dc.redo ≡ false) h
 
-  pub keeps_anew : (reply : Option Reply) → IfSome reply (IsGiven w.tc dc y) → IsDc dc → IsRecoverable dc.system
+  pub keeps_anew : (reply : Option Reply) → IfSome reply (StaysTrue w.tc dc y) → IsDc dc → IsRecoverable dc.system
       → IsTrueTo w.tc y dc.system
       → AllByRecursion (λ (p : Performance). Requests y.log p.number p.op) dc.performed → dc.known ≤ y.sure
       → dc.opened_to ≤ last_not_session (beginning w.tc.log w.tc.stable)
       → AreSessions w.tc.stable w.tc.session w.tc.phase w.tc.log dc → IsKept (replied w dc reply)
   keeps_anew reply given is recoverable true_to performed known opened sessions = by reply given
     where
-      all : AllByRecursion (IsGiven w.tc dc y) w.replies
-      all = all_from (IsGiven w.tc w.dc k.source) (IsGiven w.tc dc y) given_past w.replies k.given
+      all : AllByRecursion (StaysTrue w.tc dc y) w.replies
+      all = all_from (StaysTrue w.tc w.dc k.source) (StaysTrue w.tc dc y) given_past w.replies k.given
 
-      kept : (replies : List Reply) → AllByRecursion (IsGiven w.tc dc y) replies
+      kept : (replies : List Reply) → AllByRecursion (StaysTrue w.tc dc y) replies
           → IsKept (record w { dc = dc; replies = replies })
       kept replies given = record {
         tc = k.tc;
@@ -217,7 +217,7 @@ module _ (w : NodeView) (dc : DcView) (k : IsKept w) (a : StartsAnew w.dc dc) wh
         quiet = k.quiet;
       }
 
-      by : (reply : Option Reply) → IfSome reply (IsGiven w.tc dc y) → IsKept (replied w dc reply)
+      by : (reply : Option Reply) → IfSome reply (StaysTrue w.tc dc y) → IsKept (replied w dc reply)
       by None none = kept w.replies all
       by (Some reply) given =
-          kept (w.replies ++ reply ∷ []) (all_push (IsGiven w.tc dc y) w.replies reply all given)
+          kept (w.replies ++ reply ∷ []) (all_push (StaysTrue w.tc dc y) w.replies reply all given)

@@ -42,7 +42,7 @@ use Rattle.tc_core.proofs.Low.{may_longer}
 use Rattle.tc_core.specs.TcView.{TcView}
 use Rattle.tc_core.specs.Kept.{IsTc}
 use Rattle.node_laws.specs.Node.{NodeView, with_tc}
-use Rattle.node_laws.specs.Kept.{IsKept, IsAnsweredBy, IsBegun, IsReadTrue, InSession, IsOlder, IsNext, IsConnect, IsSent, IsRightOrNone, IsAnswerIn, IsCaptured, IsAnswered, IsValue, AreRows, IsGiven, AreSessions, IsTrueTo, IsLowAnswered, AnsweredAreCaptured, EarlierAreCaptured}
+use Rattle.node_laws.specs.Kept.{IsKept, IsAnsweredBy, IsBegun, IsReadTrue, InSession, IsOlder, IsNext, IsConnect, IsSent, IsRightOrNone, IsAnswerIn, IsCaptured, IsAnswered, IsValueInSpan, AreRowsInSpan, StaysTrue, AreSessions, IsTrueTo, IsLowAnswered, AnsweredAreCaptured, EarlierAreCaptured}
 use Rattle.node_laws.specs.Source.{Source, IsWaiting, IsUntaken, IsSource, own}
 use Rattle.record_key.proofs.Lists.{all_from}
 use Rattle.page.proofs.OnKey.{key_on}
@@ -300,14 +300,14 @@ value_stays old new both (inr grown) t x n q found reading key within =
 
 value_on_span : (old new : TcView) (v : Option Bytes) → BothKept old new → GoesOn old new
     → (t : ℕ) (x : OpenTxn) (n : ℕ) (q : Span) → find t new.open_txns ≡ Some x
-    → x.reading ≡ Some (record { number = n; span = q }) → IsValue old.log v q → IsValue new.log v q
+    → x.reading ≡ Some (record { number = n; span = q }) → IsValueInSpan old.log v q → IsValueInSpan new.log v q
 value_on_span old new v both on t x n (Key key) found reading h =
     h ∙ sym (value_stays old new both on.grown.log t x n (Key key) found reading key (within_itself key))
 value_on_span old new v both on t x n (Range low high) found reading h = h
 
 rows_on_span : (old new : TcView) (rows : List (Bytes × Bytes)) → BothKept old new → GoesOn old new
     → (t : ℕ) (x : OpenTxn) (n : ℕ) (q : Span) → find t new.open_txns ≡ Some x
-    → x.reading ≡ Some (record { number = n; span = q }) → AreRows old.log rows q → AreRows new.log rows q
+    → x.reading ≡ Some (record { number = n; span = q }) → AreRowsInSpan old.log rows q → AreRowsInSpan new.log rows q
 rows_on_span old new rows both on t x n (Key key) found reading h = h
 rows_on_span old new rows both on t x n (Range low high) found reading h = record {
   table = h.table;
@@ -318,14 +318,14 @@ rows_on_span old new rows both on t x n (Range low high) found reading h = recor
 
 -- what was replied of a read that is still waited for
 pub given_on : (old new : TcView) (dc : DcView) (x y : Source) → BothKept old new → GoesOn old new → IsGrown x y
-    → dc.stored ≤ old.stable → (reply : Reply) → IsGiven old dc x reply → IsGiven new dc y reply
+    → dc.stored ≤ old.stable → (reply : Reply) → StaysTrue old dc x reply → StaysTrue new dc y reply
 given_on old new dc x y both on grown stored (says.Connected s) h = h
 given_on old new dc x y both on grown stored (says.Answered s n a) h = answer_on old new dc x y s n a on grown stored h
 given_on old new dc x y both on grown stored (says.Row s n v) h =
-    told_on old new s n (IsValue old.log v) (IsValue new.log v) on
+    told_on old new s n (IsValueInSpan old.log v) (IsValueInSpan new.log v) on
     (λ t z q found reading. value_on_span old new v both on t z n q found reading) h
 given_on old new dc x y both on grown stored (says.Rows s n rows) h =
-    told_on old new s n (AreRows old.log rows) (AreRows new.log rows) on
+    told_on old new s n (AreRowsInSpan old.log rows) (AreRowsInSpan new.log rows) on
     (λ t z q found reading. rows_on_span old new rows both on t z n q found reading) h
 given_on old new dc x y both on grown stored (says.Checkpointed s l) h = h
 given_on old new dc x y both on grown stored (says.RedoEnded s) h = h
@@ -420,7 +420,7 @@ keeps_on w tc k y is on waits from grown sessions right captured checked = recor
   answered = λ may. captured (some_session w.dc may) (k.answered may);
   sent = all_from (IsSent w.tc w.dc k.source) (IsSent tc w.dc y)
       (sent_on w.tc tc w.dc k.source y on grown captured (stored_recorded w k) waits) w.requests k.sent;
-  given = all_from (IsGiven w.tc w.dc k.source) (IsGiven tc w.dc y)
+  given = all_from (StaysTrue w.tc w.dc k.source) (StaysTrue tc w.dc y)
       (given_on w.tc tc w.dc k.source y (record { was = k.tc; now = is }) on grown (stored_recorded w k)) w.replies
       k.given;
   sessions = sessions;

@@ -26,7 +26,7 @@ use Rattle.tc_core.proofs.KeepsTc.{open_at, waits_at, none_next}
 use Rattle.tc_core.proofs.KeepsIdle.{own_request}
 use Rattle.tc_core.proofs.Finding.{found_own}
 use Rattle.node_laws.specs.Node.{NodeView, with_tc}
-use Rattle.node_laws.specs.Kept.{IsKept, IsSent, IsGiven, IsServed, AreSessions, AnsweredAreCaptured, AreBefore, AllAreCaptured}
+use Rattle.node_laws.specs.Kept.{IsKept, IsSent, StaysTrue, IsServed, AreSessions, AnsweredAreCaptured, AreBefore, AllAreCaptured}
 use Rattle.node_laws.proofs.Invariant.ByNumber.{all_push}
 use Rattle.node_laws.proofs.Machine.Readers.{NoneAnew}
 use Rattle.node_laws.specs.Source.{Source, IsWaiting, IsAsking, own}
@@ -248,7 +248,7 @@ logs_on w log k serves = record {
 
 -- messages that were sent and given stand beside it
 keeps_messages : (w : NodeView) (requests : List Request) (replies : List Reply) (k : IsKept w)
-    → AllByRecursion (IsSent w.tc w.dc k.source) requests → AllByRecursion (IsGiven w.tc w.dc k.source) replies
+    → AllByRecursion (IsSent w.tc w.dc k.source) requests → AllByRecursion (StaysTrue w.tc w.dc k.source) replies
     → IsKept (record w { requests = requests; replies = replies })
 keeps_messages w requests replies k sent given = record {
   tc = k.tc;
@@ -281,8 +281,8 @@ keeps_sent w q k sent = keeps_messages w (w.requests ++ q ∷ []) w.replies k
 abbrev pub with_reply : NodeView → Reply → NodeView
 with_reply w reply = record w { replies = w.replies ++ reply ∷ [] }
 
-pub keeps_given : (w : NodeView) (reply : Reply) (k : IsKept w) → IsGiven w.tc w.dc k.source reply
+pub keeps_given : (w : NodeView) (reply : Reply) (k : IsKept w) → StaysTrue w.tc w.dc k.source reply
     → IsKept (with_reply w reply)
 keeps_given w reply k given =
     keeps_messages w w.requests (w.replies ++ reply ∷ []) k k.sent
-    (all_push (IsGiven w.tc w.dc k.source) w.replies reply k.given given)
+    (all_push (StaysTrue w.tc w.dc k.source) w.replies reply k.given given)

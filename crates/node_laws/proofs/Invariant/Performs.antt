@@ -22,7 +22,7 @@ use Rattle.dc_core.specs.Kept.{IsDc}
 use Rattle.tc_core.specs.declared.phase.Phase.{Phase}
 use Rattle.tc_core.specs.declared.phase.Phase.TheVariants as phase
 use Rattle.node_laws.specs.Node.{NodeView}
-use Rattle.node_laws.specs.Kept.{IsKept, IsNext, IsSent, IsGiven, IsAnswerIn, IsServed, IsTrueTo, IsLowAnswered}
+use Rattle.node_laws.specs.Kept.{IsKept, IsNext, IsSent, StaysTrue, IsAnswerIn, IsServed, IsTrueTo, IsLowAnswered}
 use Rattle.node_laws.specs.Source.{Source, IsWaiting, own}
 use Rattle.node_laws.proofs.Invariant.AtKeys.{own_leaf}
 use Rattle.node_laws.proofs.Invariant.Sources.{live, run_live, of_log}
@@ -59,7 +59,7 @@ served_carried w k dc same past c =
 
 -- what a request says to be stable is known
 pub keeps_known : (w : NodeView) (stable : ℕ) (reply : Option Reply) (k : IsKept w) → IsDc (knows w.dc stable)
-    → stable ≤ k.source.sure → IfSome reply (IsGiven w.tc (knows w.dc stable) k.source)
+    → stable ≤ k.source.sure → IfSome reply (StaysTrue w.tc (knows w.dc stable) k.source)
     → IsKept (replied w (knows w.dc stable) reply)
 keeps_known w stable reply k is sure given =
     let c : Carries k.source.log w.dc (knows w.dc stable) = record {

@@ -45,7 +45,7 @@ use Rattle.tc_core.specs.Kept.{IsPhase}
 use Rattle.tc_core.proofs.Finding.{found_own}
 use Rattle.tc_core.proofs.HeldSpans.{within_itself}
 use Rattle.node_laws.specs.Node.{NodeView, with_dc}
-use Rattle.node_laws.specs.Kept.{IsKept, IsBegun, IsAnsweredBy, IsReadTrue, IsSent, IsValue, AreRows, IsGiven, IsServed, IsTrueTo, IsLowAnswered}
+use Rattle.node_laws.specs.Kept.{IsKept, IsBegun, IsAnsweredBy, IsReadTrue, IsSent, IsValueInSpan, AreRowsInSpan, StaysTrue, IsServed, IsTrueTo, IsLowAnswered}
 use Rattle.node_laws.specs.Source.{Source, own}
 use Rattle.node_laws.proofs.Invariant.Repeats.{repeated}
 use Rattle.node_laws.proofs.Invariant.Carries.{replied, keeps_dc, StartsAnew, keeps_anew}
@@ -195,11 +195,11 @@ checkpoints w l s dc k is recoverable checks past to within images checked same 
 
 -- nothing changes at the data component
 stays : (w : NodeView) (dc : DcView) (reply r : Option Reply) (k : IsKept w) → reply ≡ r → dc ≡ w.dc
-    → IfSome r (IsGiven w.tc w.dc k.source) → IsKept (replied w dc reply)
+    → IfSome r (StaysTrue w.tc w.dc k.source) → IsKept (replied w dc reply)
 stays w dc reply r k same dc_same given =
     rw (same, dc_same) (by r given)
   where
-    by : (r : Option Reply) → IfSome r (IsGiven w.tc w.dc k.source) → IsKept (replied w w.dc r)
+    by : (r : Option Reply) → IfSome r (StaysTrue w.tc w.dc k.source) → IsKept (replied w w.dc r)
     by None none = k
     by (Some reply) given = keeps_given w reply k given
 
@@ -210,14 +210,14 @@ goes w dc new reply r same dc_same h = rw (same, dc_same) h
 -- what a read is replied is what the log gives
 reads_row : (w : NodeView) (s n : ℕ) (key : Bytes) (k : IsKept w) → IsPast w.dc s
     → IsReadTrue w.tc s n (λ q. q ≡ Key key)
-    → IsReadTrue w.tc s n (IsValue w.tc.log (value_at w.dc key))
+    → IsReadTrue w.tc s n (IsValueInSpan w.tc.log (value_at w.dc key))
 reads_row w s n key k past sent = record {
   some = sent.some;
   begun = sent.begun;
   asked = sent.asked;
   holds = λ is t x q found reading.
       let same : q ≡ Key key = sent.holds is t x q found reading in
-      let P : Span → Type 0 = IsValue w.tc.log (value_at w.dc key) in
+      let P : Span → Type 0 = IsValueInSpan w.tc.log (value_at w.dc key) in
       subst P (sym same)
       (read_logged w x (record { number = n; span = q }) k (found_own t w.tc.open_txns x found) reading
       (run_live w s k past.runs is) past.past key
@@ -226,14 +226,14 @@ reads_row w s n key k past sent = record {
 
 reads_rows : (w : NodeView) (s n : ℕ) (low : Bytes) (high : Option Bytes) (k : IsKept w) → IsPast w.dc s
     → IsReadTrue w.tc s n (λ q. q ≡ Range low high)
-    → IsReadTrue w.tc s n (AreRows w.tc.log (rows_in (range low high) (rows_of (leaves w.dc))))
+    → IsReadTrue w.tc s n (AreRowsInSpan w.tc.log (rows_in (range low high) (rows_of (leaves w.dc))))
 reads_rows w s n low high k past sent = record {
   some = sent.some;
   begun = sent.begun;
   asked = sent.asked;
   holds = λ is t x q found reading.
       let same : q ≡ Range low high = sent.holds is t x q found reading in
-      let P : Span → Type 0 = AreRows w.tc.log (rows_in (range low high) (rows_of (leaves w.dc))) in
+      let P : Span → Type 0 = AreRowsInSpan w.tc.log (rows_in (range low high) (rows_of (leaves w.dc))) in
       let Q : Span → Type 0 = λ z. (key : Bytes) → has_key (range_of z) key ≡ true → value_at w.dc key
       ≡ value_on key w.tc.log in
       let there : Q q = read_logged w x (record { number = n; span = q }) k (found_own t w.tc.open_txns x found) reading

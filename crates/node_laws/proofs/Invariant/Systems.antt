@@ -15,7 +15,7 @@ use Rattle.system_txn.specs.Checked.{Checks}
 use Rattle.dc_core.specs.Serves.{with_system}
 use Rattle.dc_core.specs.Kept.{IsDc}
 use Rattle.node_laws.specs.Node.{NodeView}
-use Rattle.node_laws.specs.Kept.{IsKept, IsBegun, IsGiven, IsTrueTo}
+use Rattle.node_laws.specs.Kept.{IsKept, IsBegun, StaysTrue, IsTrueTo}
 use Rattle.node_laws.proofs.Invariant.Carries.{Carries, replied, keeps_dc}
 use Rattle.node_laws.proofs.Invariant.Performs.{served_carried}
 
@@ -29,7 +29,7 @@ same_leaves log leaves = record { captured = λ n o asks h. h }
 
 -- the leaves' log accepts no later session than the transaction component's
 pub keeps_system : (w : NodeView) (v : SystemView) (k : IsKept w) (reply : Option Reply)
-    → IfSome reply (IsGiven w.tc (with_system w.dc v) k.source) → IsDc (with_system w.dc v) → IsRecoverable v
+    → IfSome reply (StaysTrue w.tc (with_system w.dc v) k.source) → IsDc (with_system w.dc v) → IsRecoverable v
     → Checks w.dc.system v → LeavesCarry k.source.log w.dc.system.leaves v.leaves → IsTrueTo w.tc k.source v
     → IsBegun w.tc.stable w.tc.session (stored_session v.log) → IsKept (replied w (with_system w.dc v) reply)
 keeps_system w v k reply given is recoverable checks c true_to begun =

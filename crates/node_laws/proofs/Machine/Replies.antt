@@ -39,7 +39,7 @@ use Rattle.node_laws.specs.declared.event.Event.TheVariants as event
 use Rattle.node_laws.specs.declared.event.Out.{Out}
 use Rattle.node_laws.specs.declared.event.Out.TheVariants as out
 use Rattle.node_laws.specs.Node.{NodeView, with_tc, as_out, IsUnsent, Taken, Untaken, Unread, TakesTo}
-use Rattle.node_laws.specs.Kept.{IsKept, IsTrueOfReader, InSession, IsValue, AreRows, IsAnswerIn, IsCaptured, IsAnswered, IsGiven, IsServed, AreSessions}
+use Rattle.node_laws.specs.Kept.{IsKept, IsTrueOfReader, InSession, IsValueInSpan, AreRowsInSpan, IsAnswerIn, IsCaptured, IsAnswered, StaysTrue, IsServed, AreSessions}
 use Rattle.node_laws.specs.Source.{Source, IsWaiting, own}
 use Rattle.node_laws.proofs.Invariant.Sources.{live, of_log}
 use Rattle.node_laws.specs.Simulation.{Leads, NodeStandsFor, lines_of, clients}
@@ -370,7 +370,7 @@ kept_told w o k at after =
     (same_waiting w k (was_told w.tc o) refl refl) k.sessions
 
 row_goes : (w : NodeView) (i n : ℕ) (v : Option Bytes) (x : Option OpenTxn) → IsKept w → reader w.tc n ≡ x
-    → IsTrueOfReader w.tc n (IsValue w.tc.log v) → Goes w i (on_row w.tc v x)
+    → IsTrueOfReader w.tc n (IsValueInSpan w.tc.log v) → Goes w i (on_row w.tc v x)
 row_goes w i n v None k is given = nothing w i k
 row_goes w i n v (Some o) k is given =
     let found = reader_is w.tc n o k.tc is in
@@ -379,7 +379,7 @@ row_goes w i n v (Some o) k is given =
     told_if : Bool → Outcome
     told_if b = if b then (told.Row o.txn v, was_told w.tc o) else (told.Nothing, w.tc)
 
-    by : (q : Span) → o.reading ≡ Some (record { number = n; span = q }) → IsValue w.tc.log v q
+    by : (q : Span) → o.reading ≡ Some (record { number = n; span = q }) → IsValueInSpan w.tc.log v q
         → Goes w i (told_if (is_key (span_read o.reading)))
     by (Key key) reads value =
         let P : Option Read → Type 0 = λ x. Goes w i (told_if (is_key (span_read x))) in
@@ -393,7 +393,7 @@ row_goes w i n v (Some o) k is given =
         subst P (sym reads) (nothing w i k)
 
 rows_goes : (w : NodeView) (i n : ℕ) (rows : List (Bytes × Bytes)) (x : Option OpenTxn) → IsKept w → reader w.tc n ≡ x
-    → IsTrueOfReader w.tc n (AreRows w.tc.log rows) → Goes w i (on_rows w.tc rows x)
+    → IsTrueOfReader w.tc n (AreRowsInSpan w.tc.log rows) → Goes w i (on_rows w.tc rows x)
 rows_goes w i n rows None k is given = nothing w i k
 rows_goes w i n rows (Some o) k is given =
     let found = reader_is w.tc n o k.tc is in
@@ -402,7 +402,7 @@ rows_goes w i n rows (Some o) k is given =
     told_if : Bool → Outcome
     told_if b = if b then (told.Rows o.txn rows, was_told w.tc o) else (told.Nothing, w.tc)
 
-    by : (q : Span) → o.reading ≡ Some (record { number = n; span = q }) → AreRows w.tc.log rows q
+    by : (q : Span) → o.reading ≡ Some (record { number = n; span = q }) → AreRowsInSpan w.tc.log rows q
         → Goes w i (told_if (is_range (span_read o.reading)))
     by (Key key) reads these = let P : Option Read → Type 0 = λ x. Goes w i (told_if (is_range (span_read x))) in
         subst P (sym reads) (nothing w i k)
@@ -415,7 +415,7 @@ rows_goes w i n rows (Some o) k is given =
           kept = kept_told w o k at after;
         })
 
-replied : (w : NodeView) (i : ℕ) (reply : Reply) (k : IsKept w) → IsGiven w.tc w.dc k.source reply
+replied : (w : NodeView) (i : ℕ) (reply : Reply) (k : IsKept w) → StaysTrue w.tc w.dc k.source reply
     → reply_refusal w.tc reply ≡ None → Goes w i (on_reply w.tc reply)
 replied w i (says.Connected s) k given allowed =
     connected_goes w i s w.tc.phase refl k
@@ -438,7 +438,7 @@ pub taken : (old new : NodeView) (i : ℕ) (output : Out) → IsKept old → Tak
     → Follows old (event.Reply i) output new
 taken old new i output k t =
     let x : Outcome = on_reply old.tc t.reply in
-    let given = all_at (IsGiven old.tc old.dc k.source) old.replies i t.reply k.given t.found in
+    let given = all_at (StaysTrue old.tc old.dc k.source) old.replies i t.reply k.given t.found in
     let after : IsTc x.1 = subst IsTc t.taken.1.left (reply_keeps old.tc new.tc t.reply (Ok t.what) k.tc t.taken) in
     let P : Out → Type 0 = λ o. Follows old (event.Reply i) o new in
     subst P (sym (t.output_is ∙ ap as_out t.taken.1.told))

@@ -18,7 +18,7 @@ use Rattle.tc_core.specs.Changes.{was_told}
 use Rattle.tc_core.specs.Kept.{IsReading}
 use Rattle.tc_core.proofs.KeepsTc.{reading_at}
 use Rattle.node_laws.specs.Node.{NodeView}
-use Rattle.node_laws.specs.Kept.{IsKept, AreRowsOf}
+use Rattle.node_laws.specs.Kept.{IsKept, AreRowsInRange}
 use Rattle.node_laws.specs.Simulation.{NodeStandsFor, clients}
 use Rattle.node_laws.proofs.Machine.Standing.{stands_row, stands_rows}
 use Rattle.node_laws.proofs.Machine.Reading.{logged_plain}
@@ -45,7 +45,7 @@ tells_row w o n key k at reads v value m stands =
 pub tells_rows : (w : NodeView) (o : OpenTxn) (n : ℕ) (low : Bytes) (high : Option Bytes) → IsKept w
     → find o.txn w.tc.open_txns ≡ Some o
     → o.reading ≡ Some (record { number = n; span = Range low high }) → (rows : List (Bytes × Bytes))
-    → AreRowsOf w.tc.log rows (range_of (Range low high))
+    → AreRowsInRange w.tc.log rows (range_of (Range low high))
     → (m : Machine) → NodeStandsFor w m → LeadsTo (clients w.tc) m (TellsRows o.txn rows) (clients (was_told w.tc o))
 tells_rows w o n low high k at reads rows are m stands =
     let r : Read = record { number = n; span = Range low high } in

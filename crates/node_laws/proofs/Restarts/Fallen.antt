@@ -29,7 +29,7 @@ use Rattle.tc_core.specs.declared.phase.Phase.{Phase}
 use Rattle.tc_core.specs.TcView.{TcView}
 use Rattle.node_laws.specs.Node.{NodeView}
 use Rattle.node_laws.specs.Source.{Source, IsWaiting, IsUntaken, IsSource}
-use Rattle.node_laws.specs.Kept.{IsKept, IsAnsweredBy, IsAnsweredTo, IsBegun, IsReadTrue, InSession, IsOlder, IsNext, IsConnect, AnsweredAreCaptured, IsSent, IsCaptured, IsValue, AreRows, IsGiven, IsServed, AreSessions, IsLowAnswered, IsTrueTo}
+use Rattle.node_laws.specs.Kept.{IsKept, IsAnsweredBy, IsAnsweredTo, IsBegun, IsReadTrue, InSession, IsOlder, IsNext, IsConnect, AnsweredAreCaptured, IsSent, IsCaptured, IsValueInSpan, AreRowsInSpan, StaysTrue, IsServed, AreSessions, IsLowAnswered, IsTrueTo}
 use Rattle.node_laws.specs.Fallen.{IsFallen, FallenIsKept}
 use Rattle.node_laws.proofs.Invariant.Announced.{part_grows}
 use Rattle.node_laws.proofs.Invariant.Grows.{IsGrown, answered_on, next_on, captured_on, leaves_on, lows_on, performed_on}
@@ -221,16 +221,16 @@ module _ (old new : TcView) (f : IsFallen old new) where
       in_session dc s (stable ≤ x.sure) (stable ≤ y.sure) (λ runs sure. omega (arith, sure, grown.sure)) h
 
   -- an answer is told again only in a session that is taken
-  given_left : (dc : DcView) (x y : Source) → IsGrown x y → (reply : Reply) → IsGiven old dc x reply
-      → IsGiven new dc y reply
+  given_left : (dc : DcView) (x y : Source) → IsGrown x y → (reply : Reply) → StaysTrue old dc x reply
+      → StaysTrue new dc y reply
   given_left dc x y grown (says.Connected s) h = h
   given_left dc x y grown (says.Answered s n a) h = record {
     older = older_left s h.older;
     captured = in_session dc s (IsCaptured x dc n) (IsCaptured y dc n) (λ runs. captured_on x y dc n grown) h.captured;
     own = λ unwaiting. absurd (unwaiting (subst IsWaiting (sym f.unconnected) tt));
   }
-  given_left dc x y grown (says.Row s n v) h = read_left s n (IsValue old.log v) (IsValue new.log v) h
-  given_left dc x y grown (says.Rows s n rows) h = read_left s n (AreRows old.log rows) (AreRows new.log rows) h
+  given_left dc x y grown (says.Row s n v) h = read_left s n (IsValueInSpan old.log v) (IsValueInSpan new.log v) h
+  given_left dc x y grown (says.Rows s n rows) h = read_left s n (AreRowsInSpan old.log rows) (AreRowsInSpan new.log rows) h
   given_left dc x y grown (says.Checkpointed s l) h = h
   given_left dc x y grown (says.RedoEnded s) h = h
 
@@ -274,7 +274,7 @@ fallen_is_kept w tc k f is =
       sent = all_from (IsSent w.tc w.dc x) (IsSent tc w.dc y)
           (sent_left w.tc tc f w.dc x y s.grown s.same k.quiet) w.requests
           k.sent;
-      given = all_from (IsGiven w.tc w.dc x) (IsGiven tc w.dc y) (given_left w.tc tc f w.dc x y s.grown) w.replies
+      given = all_from (StaysTrue w.tc w.dc x) (StaysTrue tc w.dc y) (given_left w.tc tc f w.dc x y s.grown) w.replies
           k.given;
       sessions = sessions_left w.tc tc f w.dc k.sessions;
       checked = checked_less w.dc.system tc.checkpointed w.tc.checkpointed f.checkpointed k.checked;

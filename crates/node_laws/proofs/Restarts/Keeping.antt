@@ -1,5 +1,5 @@
 -- What a crash keeps of a log, by how many bytes its first records have.
-use Rattle.std.proofs.Common.{◌≡◌, ℕ, ◌+◌, ◌-◌, ◌≤◌, List, ◌++◌, length, take, drop, refl, sym, ap, ◌∙◌, append_assoc, arith, inl, inr}
+use Rattle.std.proofs.Common.{◌≡◌, ℕ, ◌+◌, ◌-◌, ◌<◌, ◌≤◌, List, ◌++◌, length, take, drop, refl, sym, ap, ◌∙◌, append_assoc, arith, inl, inr}
 use Rattle.std.proofs.lemmas.Bool.{cases_lt, lt-ltb, le-ltb}
 use Rattle.std.proofs.lemmas.List.{length-append, length-take-le, take-append-drop}
 use Rattle.stable.specs.Crash.{MayLeave}
@@ -68,6 +68,26 @@ module _ (size : ℕ → ℕ) (grows : (m n : ℕ) → m ≤ n → size m ≤ si
       (size (lesser (stable + more + 1) records)) in
       let all = grows (lesser (stable + more + 1) records) records (lesser_second (stable + more + 1) records) in
       omega (arith, some, all)
+
+-- what is to be kept, so that so many bytes are left, where more records have no fewer bytes: those that are whole in them,
+-- and what is left of them for the next one
+pub part_left : (size : ℕ → ℕ) → ((m n : ℕ) → m ≤ n → size m ≤ size n) → (stable n records kept : ℕ) → stable ≤ n
+    → size n ≤ size stable + kept → n < records → size stable + kept < size (n + 1)
+    → bytes_left size stable records (n - stable) (kept - (size n - size stable))
+    ≡ lesser (size stable + kept) (size records)
+part_left size grows stable n records kept from within some next =
+    let same : stable + (n - stable) ≡ n = omega (arith, from) in
+    let first : lesser (stable + (n - stable)) records ≡ n =
+    ap (λ m. lesser m records) same ∙ first_least n records (omega (arith, some)) in
+    let second : lesser (stable + (n - stable) + 1) records ≡ n + 1 =
+    ap (λ m. lesser (m + 1) records) same ∙ first_least (n + 1) records (omega (arith, some)) in
+    let total : size n + (kept - (size n - size stable)) ≡ size stable + kept =
+    omega (arith, within, grows stable n from) in
+    (λ i. lesser (size (first i) + (kept - (size n - size stable))) (size (second i)))
+    ∙ ap (λ x. lesser x (size (n + 1))) total
+    ∙ first_least (size stable + kept) (size (n + 1)) (omega (arith, next))
+    ∙ sym (first_least (size stable + kept) (size records)
+    (omega (arith, next, grows (n + 1) records (omega (arith, some)))))
 
 -- so many records are whole in so many bytes
 pub keeps_of : (size : ℕ → ℕ) (stable records more bytes left n : ℕ) → left ≡ bytes_left size stable records more bytes

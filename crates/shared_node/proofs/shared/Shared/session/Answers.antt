@@ -1,0 +1,18 @@
+use Rattle.std.specs.Prelude.{◌≡◌, true, IfOk, IfSome, OnOk}
+use Rattle.std.proofs.Common.{Option, ℕ, sym, subst}
+use Rattle.pool_journal.specs.Desks.{DcFound}
+use Rattle.pool_journal.specs.Steps.{GivesDc}
+use Rattle.pool_journal.specs.Witnessed.{AreWitnessed, DcRan}
+use Rattle.shared_node.proofs.Results.{alone, ran_in}
+use Rattle.shared_node.proofs.shared.Shared.session.Goals as goal
+
+pub returns : goal.returns
+returns g c =
+    let J = g.J.Naming in let r = c.session.result in
+    subst (λ (o : Option ℕ). IfSome o (DcRan g.J.Naming.start g.J.Naming.entries)) (sym c.ok.ensures.value)
+    (alone (DcRan J.start J.entries) r (ran_in J.start J.entries c.lock-desk.result.value r
+    (subst (λ (d : DcFound). GivesDc g.J.Naming.start d.steps d.state) c.deref.ensures c.kept.ensures.gives)
+    (subst (λ (d : DcFound). AreWitnessed g.J.Naming.entries d.steps) c.deref.ensures c.kept.ensures.shown)
+    (subst (λ (d : DcFound). IfOk c.session.result (λ s. s ≡ d.state.side.dc.session)) c.deref-2.ensures
+    c.session.ensures.session)
+    (subst (λ (d : DcFound). OnOk c.session.result (d.state.side.up ≡ true)) c.deref-2.ensures c.session.ensures.up)))
