@@ -4,7 +4,7 @@ ghost use Rattle.history.specs.ListMachine.{TellsAnswer, TellsRow, TellsRows, Te
 ghost use Rattle.marks.specs.Seen.{reader, seeing};
 ghost use Rattle.node_laws.specs.declared.event.Event.TheVariants as event;
 ghost use Rattle.node_laws.specs.declared.event.Out.TheVariants as out;
-ghost use Rattle.session_answers.specs.Answers.{Adds, AddsTo, RefusedCall, RefusedBegin, Ends, IsUncalled};
+ghost use Rattle.session_answers.specs.Answers.{AddsCall, AddsLiveCall, RefusedCall, RefusedBegin, Ends, IsUncalled};
 ghost use Rattle.session_answers.specs.Again.{CarriesOn, IsSeenBy, RefusedAgain, Resumes};
 ghost use Rattle.session_answers.specs.Asking.{event_of};
 ghost use Rattle.pool_journal.specs.Sessions.{IsClosed};
@@ -108,7 +108,7 @@ impl<J: Naming, G: Gate + Drop, D: CrashLog + Drop, P: CrashPages + Drop> Sessio
     pub fn begin<R: Wait>(&mut self, rt: &R) -> Result<u64, Refusal>
         ensures number { self.new.number ≡ self.old.number }
         ensures begun { IfOk result (λ t.
-            Adds event.Begin (out.Begun t) None self.old.part self.new.part × (self.new.part.live ≡ Some t)) }
+            AddsCall event.Begin (out.Begun t) None self.old.part self.new.part × (self.new.part.live ≡ Some t)) }
         ensures refused { IfErr result (λ r. RefusedBegin self.old.part r self.new.part) }
     {
         let Session {
@@ -151,7 +151,7 @@ impl<J: Naming, G: Gate + Drop, D: CrashLog + Drop, P: CrashPages + Drop> Sessio
     pub fn act<R: Wait>(&mut self, rt: &R, op: &Op) -> Result<Answer, Refusal>
         ensures number { self.new.number ≡ self.old.number }
         ensures answered { IfOk result (λ a. (u : ℕ) × (n : ℕ) ×
-            AddsTo (λ t. event.Act t op.now) (out.Logged n) (Some (TellsAnswer u a)) self.old.part self.new.part) }
+            AddsLiveCall (λ t. event.Act t op.now) (out.Logged n) (Some (TellsAnswer u a)) self.old.part self.new.part) }
         ensures refused { IfErr result (λ r.
             RefusedCall (λ t. event.Act t op.now) self.old.part r self.new.part) }
     {
@@ -163,7 +163,7 @@ impl<J: Naming, G: Gate + Drop, D: CrashLog + Drop, P: CrashPages + Drop> Sessio
     pub fn get<R: Wait>(&mut self, rt: &R, key: &Key) -> Result<Option<Value>, Refusal>
         ensures number { self.new.number ≡ self.old.number }
         ensures read { IfOk result (λ v. (u : ℕ) × (n : ℕ) ×
-            AddsTo (λ t. event.Get t key.now) (out.Asked n) (Some (TellsRow u v)) self.old.part self.new.part) }
+            AddsLiveCall (λ t. event.Get t key.now) (out.Asked n) (Some (TellsRow u v)) self.old.part self.new.part) }
         ensures refused { IfErr result (λ r.
             RefusedCall (λ t. event.Get t key.now) self.old.part r self.new.part) }
     {
@@ -175,7 +175,7 @@ impl<J: Naming, G: Gate + Drop, D: CrashLog + Drop, P: CrashPages + Drop> Sessio
     pub fn scan<R: Wait>(&mut self, rt: &R, low: &Key, high: &Option<Key>) -> Result<Rows, Refusal>
         ensures number { self.new.number ≡ self.old.number }
         ensures read { IfOk result (λ rows. (u : ℕ) × (n : ℕ) ×
-            AddsTo (λ t. event.Scan t low.now high.now) (out.Asked n) (Some (TellsRows u rows)) self.old.part
+            AddsLiveCall (λ t. event.Scan t low.now high.now) (out.Asked n) (Some (TellsRows u rows)) self.old.part
             self.new.part) }
         ensures refused { IfErr result (λ r.
             RefusedCall (λ t. event.Scan t low.now high.now) self.old.part r self.new.part) }
@@ -188,7 +188,7 @@ impl<J: Naming, G: Gate + Drop, D: CrashLog + Drop, P: CrashPages + Drop> Sessio
     pub fn save<R: Wait>(&mut self, rt: &R) -> Result<u64, Refusal>
         ensures number { self.new.number ≡ self.old.number }
         ensures saved { IfOk result (λ s.
-            AddsTo (λ t. event.Save t) (out.Saved s) None self.old.part self.new.part) }
+            AddsLiveCall (λ t. event.Save t) (out.Saved s) None self.old.part self.new.part) }
         ensures refused { IfErr result (λ r. RefusedCall (λ t. event.Save t) self.old.part r self.new.part) }
     {
         let ended = self.run(rt, Ask::Save)?;
@@ -199,7 +199,7 @@ impl<J: Naming, G: Gate + Drop, D: CrashLog + Drop, P: CrashPages + Drop> Sessio
     pub fn back_to<R: Wait>(&mut self, rt: &R, savepoint: u64) -> Result<(), Refusal>
         ensures number { self.new.number ≡ self.old.number }
         ensures back { IfOk result (λ done. (u : ℕ) × (s : ℕ) ×
-            AddsTo (λ t. event.GoBack t savepoint) out.RollingBack (Some (TellsBack u s)) self.old.part
+            AddsLiveCall (λ t. event.GoBack t savepoint) out.RollingBack (Some (TellsBack u s)) self.old.part
             self.new.part) }
         ensures refused { IfErr result (λ r.
             RefusedCall (λ t. event.GoBack t savepoint) self.old.part r self.new.part) }
@@ -212,7 +212,7 @@ impl<J: Naming, G: Gate + Drop, D: CrashLog + Drop, P: CrashPages + Drop> Sessio
     pub fn rollback<R: Wait>(&mut self, rt: &R) -> Result<(), Refusal>
         ensures number { self.new.number ≡ self.old.number }
         ensures rolled_back { IfOk result (λ done. (u : ℕ) ×
-            AddsTo (λ t. event.Rollback t) out.RollingBack (Some (TellsRolledBack u)) self.old.part self.new.part
+            AddsLiveCall (λ t. event.Rollback t) out.RollingBack (Some (TellsRolledBack u)) self.old.part self.new.part
             × (self.new.part.live ≡ None)) }
         ensures refused { IfErr result (λ r. RefusedCall (λ t. event.Rollback t) self.old.part r self.new.part) }
     {
@@ -225,7 +225,7 @@ impl<J: Naming, G: Gate + Drop, D: CrashLog + Drop, P: CrashPages + Drop> Sessio
     pub fn commit<R: Wait>(&mut self, rt: &R) -> Result<u64, Refusal>
         ensures number { self.new.number ≡ self.old.number }
         ensures committed { IfOk result (λ n. (u : ℕ) ×
-            AddsTo (λ t. event.Commit t) (out.CommitLogged n) (Some (TellsCommitted u)) self.old.part self.new.part
+            AddsLiveCall (λ t. event.Commit t) (out.CommitLogged n) (Some (TellsCommitted u)) self.old.part self.new.part
             × (self.new.part.live ≡ None)) }
         ensures stable { IfOk result (λ n. n ≤ self.new.seat.stable) }
         ensures refused { IfErr result (λ r. RefusedCall (λ t. event.Commit t) self.old.part r self.new.part) }

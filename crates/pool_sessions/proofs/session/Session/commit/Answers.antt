@@ -6,7 +6,7 @@ use Rattle.node_laws.specs.declared.event.Out.{Out}
 use Rattle.node_laws.specs.declared.event.Out.TheVariants as out
 use Rattle.session_answers.specs.declared.ended.Ended.{Ended}
 use Rattle.session_answers.specs.declared.ended.Ended.TheVariants as ended
-use Rattle.session_answers.specs.Answers.{Adds, Ends, IsToldAs, TellsCommit}
+use Rattle.session_answers.specs.Answers.{AddsCall, Ends, IsToldAs, TellsCommit}
 use Rattle.pool_journal.specs.Sessions.{Part, ends}
 use Rattle.session_answers.proofs.Telling.{commits as committed}
 use Rattle.pool_sessions.proofs.session.Session.commit.Goals as goal
@@ -15,16 +15,16 @@ use Rattle.pool_sessions.proofs.session.Session.commit.Goals as goal
 abbrev Committed : ℕ → Part → Part → Type 0
 Committed n old new =
     (u : ℕ) × ((t : ℕ) × (old.live ≡ Some t)
-    × Adds (event.Commit t) (out.CommitLogged n) (Some (TellsCommitted u)) old new) × (new.live ≡ None)
+    × AddsCall (event.Commit t) (out.CommitLogged n) (Some (TellsCommitted u)) old new) × (new.live ≡ None)
 
 commits : (row : Shelves) (how : Ended) (old new : Part) (n t : ℕ) → old.live ≡ Some t
     → Ends row (event.Commit t) old how new → IsToldAs (λ (o : Out). o ≡ out.CommitLogged n) TellsCommit how
     → Committed n old new
 commits row (ended.Told p q) old new n t live (p_shown, q_shown, pending, (u, (line, is, over, adds))) (call, what) =
     let told = committed u q.value.step.value.out line is what in
-    let so = subst (λ (l : Line). Adds (event.Commit t) p.value.step.value.out (Some l) old new) told adds in (
+    let so = subst (λ (l : Line). AddsCall (event.Commit t) p.value.step.value.out (Some l) old new) told adds in (
       u,
-      (t, live, subst (λ (o : Out). Adds (event.Commit t) o (Some (TellsCommitted u)) old new) call so),
+      (t, live, subst (λ (o : Out). AddsCall (event.Commit t) o (Some (TellsCommitted u)) old new) call so),
       over (ap ends told),
     )
 commits row (ended.AtOnce p) old new n t live how told = absurd told
