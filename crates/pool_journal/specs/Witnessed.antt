@@ -38,7 +38,7 @@ pub record RunsIn (session : ℕ) (side : TcSide) : Type 0 where
   pub running : side.tc.phase ≡ phase.Running
   pub session_is : side.tc.session ≡ session
 
--- so it did, up to some entry
+-- so it did, up to some entry or at the start
 pub record TcRan (start : Start) (row : Shelves) (session : ℕ) : Type 0 where
   pub steps : List Step
   pub shown : AreWitnessed row steps
@@ -46,7 +46,7 @@ pub record TcRan (start : Start) (row : Shelves) (session : ℕ) : Type 0 where
   pub gives : GivesTc start steps state
   pub runs : RunsIn session state.side
 
--- the data component ran in this session, up to some entry
+-- the data component ran in this session, up to some entry or at the start
 pub record DcRan (start : Start) (row : Shelves) (session : ℕ) : Type 0 where
   pub steps : List Step
   pub shown : AreWitnessed row steps
@@ -55,7 +55,7 @@ pub record DcRan (start : Start) (row : Shelves) (session : ℕ) : Type 0 where
   pub up : state.side.up ≡ true
   pub session_is : state.side.dc.session ≡ session
 
--- both components ran in one session
+-- both components ran in one session, each up to an entry of its own
 pub record WereUp (start : Start) (row : Shelves) : Type 0 where
   pub session : ℕ
   pub dc : DcRan start row session
