@@ -20,7 +20,6 @@ use Rattle.stable.specs.declared.log_device.LogDevice as log_device
 use Rattle.stable.specs.declared.page_device.PageDevice as page_device
 use Rattle.system_txn.proofs.system.SystemTxns.TheSendSync as system
 use Rattle.system_txn.specs.contracts.system.SystemTxns as SystemTxns
-use Rattle.std.specs.contracts.impls.GlobalAllocator.TheImpl.{ghosts}
 use Rattle.node_sides.proofs.stopped_dc.StoppedDc.TheSendSync as stopped
 use Rattle.node_sides.specs.contracts.dc_side.DcSide as DcSide
 use Rattle.pool_journal.proofs.hall.Hall.TheSendSync as hall
