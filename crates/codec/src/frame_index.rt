@@ -46,6 +46,16 @@ impl FrameIndex {
         }
     }
 
+    /// Forgets all frames. Takes no memory, and keeps its room.
+    pub fn clear(&mut self)
+        ensures marks { self.new.marks ≡ [] }
+        ensures count { self.new.count ≡ 0 }
+        ensures room { self.old.has_room ≡ true → self.new.has_room ≡ true }
+    {
+        self.marks.clear();
+        self.count = 0;
+    }
+
     /// How many frames there are.
     pub fn len(&self) -> usize
         ensures { result ≡ self.now.count }

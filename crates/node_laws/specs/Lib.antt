@@ -10,3 +10,4 @@ pub mod Rounds
 pub mod Fallen
 pub mod Promises
 pub mod Halves
+pub mod Forgetting

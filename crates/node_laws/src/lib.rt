@@ -13,5 +13,5 @@ mod laws;
 mod round;
 
 pub use event::{Event, Out};
-pub use laws::fallen_law;
+pub use laws::{fallen_law, forgetting_law};
 pub use round::Round;

@@ -1,5 +1,5 @@
 //! Messages as they were sent: their frames one after another in one buffer, and an index of places. What was sent
-//! stays: a message may be delivered any number of times, late, or never.
+//! stays until all is let go: a message may be delivered any number of times, late, or never.
 ghost use Rattle.std.specs.Prelude.{◌≡◌, ◌<◌, ◌++◌, ◌∷◌, ◌⊎◌, [], true, false, length, Some, IfOk, IfErr, IfNone, OnOk, OnErr, OnSome};
 ghost use Rattle.codec.specs.FrameIndex.{places_of, Indexes};
 ghost use Rattle.node_laws.specs.Halves.{IsNextNumber};
@@ -21,7 +21,7 @@ use std::marker::{Model, PhantomData};
 /// The bytes of the longest frame of a message without rows, or more.
 const SHORT_LEN: usize = 264;
 
-/// Every message ever sent, the oldest first. Each stands in the buffer as its frame.
+/// Every message that was sent and not let go, the oldest first. Each stands in the buffer as its frame.
 #[derive(Drop)]
 pub(crate) struct Sent<M: Message> {
     bytes: Vec<u8>,
@@ -56,7 +56,16 @@ impl<M: Message> Sent<M> {
         }
     }
 
-    /// How many were sent.
+    /// Lets go of all. Takes no memory, and keeps what room there is.
+    pub(crate) fn forget(&mut self)
+        ensures none { self.new.messages ≡ [] }
+        ensures room { self.old.has_room ≡ true → self.new.has_room ≡ true }
+    {
+        self.bytes.clear();
+        self.index.clear();
+    }
+
+    /// How many stand.
     pub(crate) fn len(&self) -> u64
         ensures count { result ≡ length self.now.messages }
         ensures few { result < 18446744073709551615 }
