@@ -136,3 +136,8 @@ module _ (X : Type 0) (spell : X → List ℕ) (Fits : X → Type 0) (read_at : 
       let on = goes_on_after bytes marks count (spell x) h.indexes h.ends short in
       ap (map (read_at (bytes ++ frame (spell x)))) on.places
       ∙ read_more bytes (places_of bytes count) x fits h.stand
+
+-- nor is anything read there
+pub none_read : (X : Type 0) (read_at : List ℕ → ℕ → X) → map (read_at []) (places_of [] 0) ≡ []
+unfolding places_of
+none_read X read_at = refl

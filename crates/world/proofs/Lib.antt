@@ -1,4 +1,5 @@
 pub mod Apart
+mod BringingUp
 pub mod Doing
 pub mod Framed
 mod Serving

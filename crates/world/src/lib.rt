@@ -8,17 +8,20 @@
 #![tactic(auto)]
 
 mod attempt;
+mod bringing_up;
 mod driving;
 mod message;
 mod node;
 mod parts;
+mod quiet;
 mod sent;
 mod settling;
 mod world;
 
+pub use bringing_up::bring_up;
 pub use dc_core::{Device, Neighbours};
 pub use driving::drive;
-pub use node_laws::{Event, Out, Round, fallen_law};
+pub use node_laws::{Event, Out, Round, fallen_law, forgetting_law};
 pub use node_sides::{DcSide, TcSide};
 pub use settling::settle;
 pub use world::World;

@@ -22,7 +22,7 @@ use record_key::{Key, OpRef, Refusal};
 use stable::{CrashLog, CrashPages, MemLog, MemPages};
 use std::alloc::Global;
 
-/// A transaction component and a data component with their devices, and every message ever sent.
+/// A transaction component and a data component with their devices, and every message that was sent and not let go.
 #[derive(Drop)]
 pub struct Node<D: CrashLog, P: CrashPages> {
     pub tc: TcSide<D>,

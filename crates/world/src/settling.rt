@@ -42,7 +42,8 @@ fn less_one(left: Option<u64>) -> Option<u64>
     }
 }
 
-fn play<D: CrashLog, P: CrashPages>(
+/// The events of a round that applies, up to one that is refused.
+pub(crate) fn play<D: CrashLog, P: CrashPages>(
     world: &mut World<D, P>,
     round: Round,
     out: &mut Vec<Out>,

@@ -10,6 +10,7 @@ ghost use Rattle.btree.specs.Leaves.{rows_of};
 ghost use Rattle.dc_core.specs.DcView.{leaves};
 ghost use Rattle.tc_core.specs.Causes.{begin_refusal};
 ghost use Rattle.node_laws.specs.Halves.{node_of};
+ghost use Rattle.node_laws.specs.Forgetting.{without_messages};
 ghost use Rattle.node_laws.specs.Node.{fresh_node, joined, if_up};
 ghost use Rattle.node_laws.specs.Simulation.{NodeStandsFor};
 ghost use Rattle.node_laws.specs.Stepping.{IsStep};
@@ -21,7 +22,7 @@ ghost use Rattle.node_laws.specs.Rounds.{IsNextRound, IsAtRest, AreApart, round_
 use crate::node::Node;
 use dc_core::Dc;
 use history::Record;
-use node_laws::{Event, Out, Round};
+use node_laws::{Event, Out, Round, forgetting_law};
 use node_sides::{DcSide, TcSide};
 use page::Leaf;
 use record_key::{Key, Refusal, Value};
@@ -83,12 +84,12 @@ impl<D: CrashLog, P: CrashPages> World<D, P> {
         }
     }
 
-    /// The two components apart, where nothing was sent between them yet. What holds of the node is handed on with them.
+    /// The two components apart; every message between them is let go. What holds of the node is handed on with them.
     pub fn parted(self) -> (TcSide<D>, DcSide<D, P>)
-        requires quiet { (self.requests ≡ []) × (self.replies ≡ []) }
-        ensures node { self ≡ node_of result.0 result.1 [] [] }
+        ensures node { without_messages self ≡ node_of result.0 result.1 [] [] }
         ensures kept { IsKept (node_of result.0 result.1 [] []) }
     {
+        forgetting_law();
         let World { node } = self;
         let Node {
             tc,
@@ -118,6 +119,16 @@ impl<D: CrashLog, P: CrashPages> World<D, P> {
         self.node.step(event, out);
     }
 
+    /// Lets go of every message, as if the network had lost them: none can be delivered any more, and the next one of
+    /// each kind is number 1. Nothing else changes. Takes no memory, and keeps the room that the messages had.
+    pub fn forget(&mut self)
+        ensures { self.new ≡ without_messages self.old }
+    {
+        forgetting_law();
+        self.node.requests.forget();
+        self.node.replies.forget();
+    }
+
     /// What holds at every moment, and what the node promises by that: every leaf is honest, also after any crash, a
     /// cached one once what a crash has lost is taken back; no operation is compensated twice, no compensation is
     /// refused, whose Commit record is stable has committed; and where the node is settled, its records are those of a
@@ -130,7 +141,7 @@ impl<D: CrashLog, P: CrashPages> World<D, P> {
     }
 
     /// The transaction component, where it runs. Refused NotConnected.
-    fn running_tc(&self) -> Result<&Tc<D>, Refusal>
+    pub(crate) fn running_tc(&self) -> Result<&Tc<D>, Refusal>
         ensures up { OnOk result (self.now.tc_up ≡ true) }
         ensures tc { IfOk result (λ tc. tc.now ≡ self.now.tc) }
         ensures refused { IfErr result (λ refusal. refusal ≡ Refusal.NotConnected) }
@@ -191,14 +202,14 @@ impl<D: CrashLog, P: CrashPages> World<D, P> {
         self.running_tc()?.can_begin()
     }
 
-    /// How many requests were sent.
+    /// How many requests were sent since the last were let go.
     pub fn requests(&self) -> u64
         ensures { result ≡ length self.now.requests }
     {
         self.node.requests.len()
     }
 
-    /// How many replies were given.
+    /// How many replies were given since then.
     pub fn replies(&self) -> u64
         ensures { result ≡ length self.now.replies }
     {
