@@ -11,6 +11,7 @@ ghost use Rattle.logical_log.specs.Spelled.{spelled, StandsNext};
 use crate::fits::fits;
 use crate::found::Found;
 use crate::frames::Frames;
+use crate::judge::{Judge, Unjudged};
 use crate::open::Refused;
 use crate::replay::Index;
 use crate::write::LAST_NUMBER;
@@ -34,12 +35,33 @@ impl<D: LogDevice> Found<D> {
         ensures none_pending { IfErr result (λ left. D.pending left.device ≡ []) }
         ensures used { IfErr result (λ left. UsedToRead (D.usage device) left.refusal (D.usage left.device)) }
     {
+        Found::read_judged(alloc, device, &mut Unjudged::new())
+    }
+
+    /// The same, where the judge is shown each record as soon as it was read and fits those before it. It was shown all
+    /// records of a log that is found.
+    pub fn read_judged<J: Judge>(
+        alloc: Global,
+        device: D,
+        judge: &mut J,
+    ) -> Result<Found<D>, Refused<D>>
+        requires all_forced { D.pending device ≡ [] }
+        requires unjudged { J.shown judge.old ≡ [] }
+        ensures judged { IfOk result (λ found. J.shown judge.new ≡ found.records) }
+        ensures found { IfOk result (λ found. IsLogOf (D.forced device) found.records) }
+        ensures bytes { IfOk result (λ found. found.bytes ≡ D.forced device) }
+        ensures called { IfOk result (λ found. found.usage ≡ called (D.usage device)) }
+        ensures refused { IfErr result (λ left. RefusesOpen (D.forced device) left.refusal) }
+        ensures forced { IfErr result (λ left. D.forced left.device ≡ D.forced device) }
+        ensures none_pending { IfErr result (λ left. D.pending left.device ≡ []) }
+        ensures used { IfErr result (λ left. UsedToRead (D.usage device) left.refusal (D.usage left.device)) }
+    {
         let mut device = device;
         if let Err(refusal) = fetch(&mut device) {
             return Err(Refused { refusal, device });
         }
         let mut frames = Frames::new(alloc, device);
-        match replay(alloc, &mut frames) {
+        match replay(alloc, &mut frames, judge) {
             Ok(index) => Ok(Found { frames, index }),
             Err(refusal) => Err(Refused {
                 refusal,
@@ -63,9 +85,15 @@ fn fetch<D: LogDevice>(device: &mut D) -> Result<(), Refusal>
     }
 }
 
-/// Reads one record after another, and gives an index of them.
-fn replay<D: LogDevice>(alloc: Global, frames: &mut Frames<D>) -> Result<Index, Refusal>
+/// Reads one record after another, shows each to the judge, and gives an index of them.
+fn replay<D: LogDevice, J: Judge>(
+    alloc: Global,
+    frames: &mut Frames<D>,
+    judge: &mut J,
+) -> Result<Index, Refusal>
     requires unread { frames.old.records ≡ [] }
+    requires unjudged { J.shown judge.old ≡ [] }
+    ensures judged { OnOk result (J.shown judge.new ≡ frames.new.records) }
     ensures begins { OnOk result (BeginsAs frames.old.left frames.new.records frames.new.left) }
     ensures cut { OnOk result (IsCut 181 frames.new.left) }
     ensures indexed { IfOk result (IsIndex frames.new.records) }
@@ -77,7 +105,10 @@ fn replay<D: LogDevice>(alloc: Global, frames: &mut Frames<D>) -> Result<Index, 
     let mut found = Record::Session;
     loop {
         match frames.next(&mut found) {
-            FrameEnd::At(next) => step(frames, &mut index, &found, next)?,
+            FrameEnd::At(next) => {
+                step(frames, &mut index, &found, next)?;
+                judge.look(&found, frames.len())?;
+            }
             FrameEnd::Short => return Ok(index),
             FrameEnd::Bad => return Err(Refusal::BadBytes(frames.end() as u64)),
         }

@@ -1,4 +1,4 @@
-use Rattle.std.proofs.Common.{sym, ap, ◌∙◌}
+use Rattle.std.proofs.Common.{ap, ◌∙◌, sym}
 use Rattle.record_key.specs.Table.{value_after}
 use Rattle.log_replay.specs.Kept.{value_held}
 use Rattle.log_replay.proofs.Applied.{applied}
@@ -6,8 +6,7 @@ use Rattle.log_replay.proofs.values.apply.Goals as goal
 
 pub returns-clause-applied : goal.returns-clause-applied
 returns-clause-applied c =
-    applied c.args.values.now c.put.new.values c.args.op.now c.key-2.result.now c.value_after.result c.key-2.ensures
-    (c.value_after.ensures
-    ∙ ap (value_after c.args.op.now) (c.value_at-old.ensures
-    ∙ ap (value_held c.args.values.now) (c.key.ensures ∙ sym c.key-2.ensures)))
+    applied c.args.values.now c.put.new.values c.args.op.now c.key.result.now c.value_after.result c.key.ensures
+    (c.value_after.ensures ∙ ap (value_after c.args.op.now)
+    (c.requires.old ∙ ap (value_held c.args.values.now) (sym c.key.ensures)))
     c.in_ok-put.ensures.put

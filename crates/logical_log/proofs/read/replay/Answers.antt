@@ -1,4 +1,4 @@
-use Rattle.std.proofs.Common.{◌≡◌, ℕ, List, ◌∷◌, refl, sym, subst, ◌∙◌}
+use Rattle.std.proofs.Common.{◌≡◌, ℕ, List, ◌∷◌, refl, sym, ap, subst, ◌∙◌}
 use Rattle.std.proofs.lemmas.Result.{err_from_is_err_and}
 use Rattle.codec.specs.Frames.{IfTaken}
 use Rattle.codec.specs.Reading.{taken_at}
@@ -21,7 +21,7 @@ loop-next-init g c =
       index_nothing c.new-index.result c.new-index.ensures.analysis
           c.new-index.ensures.holders c.new-index.ensures.adders c.new-index.ensures.answered c.new-index.ensures.last,
     ) in
-    (starts.0, starts.1, refl)
+    (starts.0, starts.1, refl, c.requires.unjudged ∙ sym c.requires.unread)
 
 -- what was read stands next
 is_next : (end : FrameEnd) (place : ℕ) (log : List Record) (left : List ℕ) (r : Record) (next : ℕ) → end ≡ ends.At next
@@ -49,6 +49,7 @@ loop-next-preserved g c =
           c.in_ok-step-in-At.ensures.room c.in_ok-step-in-At.ensures.left),
       c.in_ok-step-in-At.ensures.index,
       c.step.ensures.device ∙ c.loop-next.invariant.2,
+      c.in_ok-look-in-At.ensures.shown ∙ ap (λ (l : List Record). c.next.new.found ∷ l) c.loop-next.invariant.3 ∙ sym grown,
     )
 
 pub returns-in_err-step-in-At-clause-refused : goal.returns-in_err-step-in-At-clause-refused
