@@ -9,7 +9,9 @@
 
 mod judging;
 mod opening;
+mod renewal;
 mod unopened;
 
 pub use opening::open;
+pub use renewal::renew;
 pub use unopened::{Cause, Unopened};

@@ -9,7 +9,7 @@ ghost use Rattle.node_laws.specs.Node.{joined};
 ghost use Rattle.node_laws.specs.Simulation.{NodeStandsFor};
 ghost use Rattle.node_store.specs.Opening.{IsFit, IsRefusedFor};
 
-use crate::judging::judge;
+use crate::judging::Judging;
 use crate::unopened::Unopened;
 use dc_core::Dc;
 use logical_log::Found;
@@ -67,13 +67,14 @@ where
     ensures forced { IfErr result (λ left. D.forced left.log ≡ D.forced log) }
     ensures none_pending { IfErr result (λ left. D.pending left.log ≡ []) }
 {
-    let found = match Found::read(alloc, log) {
+    let mut judging = Judging::new(alloc);
+    let found = match Found::read_judged(alloc, log, &mut judging) {
         Ok(found) => found,
         Err(left) => return Err(Unopened::refused(left.refusal, left.device)),
     };
-    match judge(alloc, found.frames()) {
-        Ok(()) => Ok(found),
-        Err(cause) => Err(Unopened {
+    match judging.wrong() {
+        None => Ok(found),
+        Some(cause) => Err(Unopened {
             cause,
             log: found.stop(),
         }),

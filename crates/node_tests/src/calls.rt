@@ -1,7 +1,9 @@
 //! The calls of a node, each in a small function without a contract: a test of several calls is cheap to check then.
 use history::Record;
 use node_laws::{Event, Out};
+use node_store::renew;
 use record_key::{Key, Refusal, Value};
+use stable::{CrashLog, MemLog, MemPages};
 use std::alloc::Global;
 use world::{World, settle};
 
@@ -37,4 +39,20 @@ pub fn record(world: &World, number: u64) -> Result<Option<Record>, Refusal> {
 
 pub fn rows(world: &World) -> Result<Vec<(Key, Value)>, Refusal> {
     world.rows()
+}
+
+pub fn is_quiet(world: &World) -> bool {
+    world.is_quiet()
+}
+
+/// The node renewed on devices in memory. The call of this number of its log's device fails, if it isn't 0.
+pub fn renewed(alloc: Global, old: &World, failing: u64) -> Result<Box<World>, Refusal> {
+    let mut log = MemLog::new(alloc);
+    if failing > 0 {
+        log.fail_at(failing);
+    }
+    match renew(alloc, old, log, MemLog::new(alloc), MemPages::new(alloc)) {
+        Ok(world) => Ok(Box::new(alloc, world)?),
+        Err(left) => Err(left.refusal),
+    }
 }

@@ -16,6 +16,7 @@ mod counts;
 mod driving;
 mod failures;
 mod flaw;
+mod renewing;
 mod tally;
 mod walking;
 mod walks;

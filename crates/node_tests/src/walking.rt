@@ -5,6 +5,7 @@ use crate::counts::Counts;
 use crate::driving::step_again;
 use crate::failures::Failures;
 use crate::flaw::{Flaw, check};
+use crate::renewing::check_renewals;
 use client_model::Model;
 use history::Record;
 use log_laws::plain_history;
@@ -231,6 +232,21 @@ impl Walk {
             rows(&self.world)?.as_slice() == table.rows(),
             "a settled node has other records",
         )
+    }
+
+    /// The settled node is renewed, just where no client's transaction is open.
+    pub fn check_renewals(&self, alloc: Global) -> Result<(), Flaw> {
+        check_renewals(alloc, &self.world, self.model.open.is_empty())
+    }
+
+    /// The transaction component crashes and loses whoever is open.
+    pub fn crash(&mut self, alloc: Global) -> Result<(), Flaw> {
+        let event = Event::CrashTc {
+            frames: 0,
+            bytes: 0,
+        };
+        let out = self.compared(alloc, &event)?;
+        self.take(alloc, &out)
     }
 
     /// The records of the log, the oldest first.

@@ -73,14 +73,23 @@ fn walk_in_parts(alloc: Global, walk: &mut Walk) -> Result<(), Flaw> {
     Ok(())
 }
 
-/// As many events as the seed says, after which the node is settled and compared.
+/// As many events as the seed says, after which the node is settled, compared and renewed.
 fn walk_briefly(alloc: Global, walk: &mut Walk, seed: u64) -> Result<(), Flaw> {
     if seed % 2 == 0 {
         walk.serve(alloc)?;
     }
     walk_on(alloc, walk, seed % 200)?;
     settle(alloc, walk)?;
-    check(is_legal(&walk.log(alloc)?), "the log isn't legal")
+    check(is_legal(&walk.log(alloc)?), "the log isn't legal")?;
+    renew(alloc, walk)
+}
+
+/// The settled node is renewed, and once a crash has left nobody open it is again.
+fn renew(alloc: Global, walk: &mut Walk) -> Result<(), Flaw> {
+    walk.check_renewals(alloc)?;
+    walk.crash(alloc)?;
+    settle(alloc, walk)?;
+    walk.check_renewals(alloc)
 }
 
 fn walk_on(alloc: Global, walk: &mut Walk, events: u64) -> Result<(), Flaw> {

@@ -1,0 +1,5 @@
+pub mod Alone
+pub mod Rows
+pub mod Tables
+pub mod Fitting
+pub mod Devices

@@ -1,0 +1,16 @@
+-- Why a node isn't renewed.
+use Rattle.std.specs.Prelude.{◌≡◌, ◌⊎◌}
+use Rattle.std.specs.FinMap.{entries}
+use Rattle.record_key.specs.declared.refusal.Refusal.{Refusal}
+use Rattle.record_key.specs.declared.refusal.Refusal.TheVariants.{NotNow}
+use Rattle.btree.specs.Leaves.{rows_of}
+use Rattle.log_rewriting.specs.Written.{RefusesRecords, count_with}
+use Rattle.dc_core.specs.DcView.{leaves}
+use Rattle.node_laws.specs.Node.{NodeView}
+use Rattle.world.specs.Quiet.{IsQuiet}
+
+-- something is left to do in it, or somebody is open; or none of this, and its rows aren't written or opened
+abbrev pub RefusesRenewal : NodeView → Refusal → Type 0
+RefusesRenewal w r =
+    ((r ≡ NotNow) × (IsQuiet w → ⊥))
+    ⊎ (IsQuiet w × RefusesRecords (count_with 0 (entries (rows_of (leaves w.dc)))) r)
