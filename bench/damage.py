@@ -4,8 +4,10 @@
 Of every byte BITS bits are flipped, one at a time (1 if not given, 8 for all); every file is cut to each shorter length,
 made longer, taken away, made a folder, a link to itself, and a file that may not be read; the folder is a file, or lies
 in none. Each run must end with a refusal that names the file (status 2 and nothing on standard output), or with the
-records of the store; with those of an earlier commit only where the log was cut short. Where a bit of the log was
-flipped it must be refused, with the place of that block. Opened once more a store must give the same. Prints how many
+records of the store; with those of an earlier commit only where the log was cut short, and then standard error tells the torn block's place
+and length, if one is left. Where a bit of the log was flipped it must be refused, with the place of that block; and where
+no whole block of the log is left, or a file is a folder, a pipe or a link to itself. Opened once more a store must give
+the same. Prints how many
 runs there were of each kind, and a line for each that did something else; exit status 1 then.
 """
 import collections
@@ -83,7 +85,8 @@ def blocks(log):
     at = 0
     while at < len(log):
         places.append(at)
-        at += 40 + int.from_bytes(log[at + 8:at + 16], "big")
+        assert log[at] == 2
+        at += 32 + int.from_bytes(log[at + 8:at + 16], "big")
     assert at == len(log)
     return places
 
@@ -115,10 +118,13 @@ class Damage:
                 out.write(data)
         return folder
 
-    def judge(self, what, folder, names, oldest):
-        """Opens the store. `oldest`: how many commits it may lack, None where it must be refused."""
+    def judge(self, what, folder, names, oldest, torn=None):
+        """Opens the store. `oldest`: how many commits it may lack, None where it must be refused. `torn`: what standard
+        error must have where it isn't refused."""
         text, fault, status = run(self.shell, folder, b"settle\ntable\n")
         kind = self.kind(folder, text, fault, status, names, oldest)
+        if torn is not None and status == 0 and torn not in fault:
+            kind = f"not told: standard error must have {torn!r}"
         self.counts[kind.split(":")[0]] += 1
         if ":" in kind:
             self.faults += 1
@@ -158,10 +164,17 @@ class Damage:
 
     def lengths(self):
         for name, data in self.files.items():
-            last = data[blocks(data)[-1]:] if name == "log" else data
+            places = blocks(data) if name == "log" else []
+            last = data[places[-1]:] if places else data
             for length in range(len(data)):
                 folder = self.store({**self.files, name: data[:length]})
-                self.judge(f"{name}, cut to {length}", folder, self.files, len(self.history))
+                oldest, torn = len(self.history), None
+                if places and length < places[1]:
+                    oldest = None
+                elif places:
+                    end = max(place for place in places if place <= length)
+                    torn = f"a torn block of {length - end} bytes at byte {end} " if end < length else None
+                self.judge(f"{name}, cut to {length}", folder, self.files, oldest, torn)
             for more in (b"\0", b"\0" * 8, b"\0" * 4096, b"\xff" * 16, b"\0" * 7 + b"\x01\x09", b"x" * 100, last):
                 folder = self.store({**self.files, name: data + more})
                 self.judge(f"{name}, longer by {more[:16]!r}", folder, [name], 0)
@@ -171,6 +184,7 @@ class Damage:
             path = os.path.join(self.path("store"), name)
             for what, make in (("gone", None), ("a folder", lambda: os.mkdir(path)),
                                ("a link to itself", lambda: os.symlink(name, path)),
+                               ("a pipe", lambda: os.mkfifo(path)),
                                ("not to be read", lambda: os.close(os.open(path, os.O_CREAT, 0)))):
                 if what == "not to be read" and os.geteuid() == 0:
                     continue  # root reads all

@@ -19,7 +19,17 @@ pub struct FileLog {
     // How many of the bytes the file surely has.
     written: usize,
     file: Option<LogFile>,
+    torn: Option<Torn>,
     faults: Faults,
+}
+
+/// The beginning of a block, with which the file of a log ends: a kill came while it was written. It is no part of the log.
+#[derive(Clone, Copy, Debug, PartialEq, Eq, Drop)]
+pub struct Torn {
+    /// At which byte of the file it begins, the first one being 0.
+    pub place: u64,
+    /// How many bytes of it are there.
+    pub len: u64,
 }
 
 impl Model for FileLog {
@@ -50,12 +60,14 @@ impl FileLog {
             forced: 0,
             written: 0,
             file: None,
+            torn: None,
             faults: Faults::new(),
         }
     }
 
-    /// The log over a file that has these bytes, all of them synced.
-    pub(crate) fn over(file: LogFile, bytes: Vec<u8>) -> FileLog
+    /// The log that has these bytes, all of them synced in its file, behind which there is this torn block; or without a
+    /// file that keeps what is forced.
+    pub(crate) fn over(file: Option<LogFile>, bytes: Vec<u8>, torn: Option<Torn>) -> FileLog
         ensures forced { result.forced ≡ bytes.items }
         ensures pending { result.pending ≡ [] }
         ensures unused { result.usage ≡ freely_unused }
@@ -65,9 +77,15 @@ impl FileLog {
             bytes,
             forced: len,
             written: len,
-            file: Some(file),
+            file,
+            torn,
             faults: Faults::new(),
         }
+    }
+
+    /// The torn block that the opening has left out. The next force or cut takes it from the file.
+    pub fn torn(&self) -> Option<Torn> {
+        self.torn
     }
 }
 

@@ -1,6 +1,6 @@
 //! The folder of a store.
 use crate::store_error::{StoreError, StoreFile, Tried};
-use std::fs::{File, Files, OpenOptions};
+use std::fs::{File, Files, Metadata, OpenOptions};
 use std::os::fd::AsRawFd;
 use std::path::Path;
 use std::{fs, io};
@@ -56,18 +56,49 @@ fn list<R: Files + AllocGlobal + Clone + Drop>(
     Ok(true)
 }
 
-/// Opens a file of the folder for reading and writing, and makes it where that is asked for.
+/// Whether the folder has a file of this name. What isn't a plain file is refused before it is opened: to open a pipe
+/// may wait for another process, and to open a device may do something.
+pub(crate) fn has<R: Files + AllocGlobal>(
+    rt: &R,
+    folder: &str,
+    name: &str,
+    which: StoreFile,
+) -> Result<bool, StoreError> {
+    match look(rt, folder, name) {
+        Ok(found) if found.is_file() => Ok(true),
+        Ok(_) => Err(StoreError::NotAFile { file: which }),
+        Err(cause) if cause.kind() == io::ErrorKind::NotFound => Ok(false),
+        Err(cause) => Err(StoreError::new(Tried::Open, which, cause)),
+    }
+}
+
+fn look<R: Files + AllocGlobal>(rt: &R, folder: &str, name: &str) -> io::Result<Metadata> {
+    let path = Path::new(folder).join(rt.alloc(), name)?;
+    fs::metadata(rt, path)
+}
+
+/// What a file of the folder is opened for.
+#[derive(Clone, Copy, PartialEq, Eq)]
+pub(crate) enum Way {
+    /// Reading.
+    Read,
+    /// Reading and writing.
+    Both,
+    /// Both, and it is made where it isn't there.
+    Made,
+}
+
 pub(crate) fn open<R: Files<File = File> + AllocGlobal>(
     rt: &R,
     folder: &str,
     name: &str,
-    creates: bool,
+    way: Way,
 ) -> io::Result<File> {
     let path = Path::new(folder).join(rt.alloc(), name)?;
     let file = OpenOptions::new()
         .read(true)
-        .write(true)
-        .create(creates)
+        .write(way != Way::Read)
+        .create(way == Way::Made)
         .open(rt, path)?;
     // What is meant for a standard stream that was closed must not land in the store.
     if file.as_raw_fd() <= 2 {

@@ -11,10 +11,12 @@ mod folder;
 mod log_file;
 mod mark;
 mod no_pages;
+mod renewal;
 mod store;
 mod store_error;
 
-pub use file_log::FileLog;
+pub use file_log::{FileLog, Torn};
 pub use no_pages::NoPages;
-pub use store::open_store;
+pub use renewal::replace_log;
+pub use store::{open_store, read_store};
 pub use store_error::{StoreError, StoreFile, Tried};

@@ -1,6 +1,7 @@
 //! The file of a log, and what holds it to one process.
 ghost use Rattle.std.specs.Prelude.{◌≤◌, OnOk};
 
+use crate::mark::MarkFile;
 use log_blocks::{HEAD_LEN, head};
 use std::fs::File;
 use std::io;
@@ -11,21 +12,24 @@ pub(crate) struct LogFile {
     log: File,
     // Where its whole blocks end, and the next one goes.
     end: u64,
+    // The checksum of all up to there, which the next block goes on from.
+    sum: u64,
     // Whether it may have more: a block that was torn, or that of a call which failed. What that has written, a crash
     // may have taken from the log meanwhile.
     is_unsure: bool,
-    // Locked as long as it is open.
-    store: File,
+    mark: MarkFile,
 }
 
 impl LogFile {
-    /// The file of a log that has been read whole: it has `len` bytes, and its whole blocks end at `end`.
-    pub(crate) fn new(log: File, store: File, end: usize, len: usize) -> LogFile {
+    /// The file of a log that has been read whole: its whole blocks end at `end` and have this checksum, and it may have
+    /// more.
+    pub(crate) fn new(log: File, mark: MarkFile, end: usize, sum: u64, is_unsure: bool) -> LogFile {
         LogFile {
             log,
             end: end as u64,
-            is_unsure: end < len,
-            store,
+            sum,
+            is_unsure,
+            mark,
         }
     }
 
@@ -65,19 +69,22 @@ impl LogFile {
     }
 
     fn put(&mut self, start: usize, bytes: &[u8]) -> io::Result<()> {
-        let head = head(self.end, start as u64, bytes);
+        let (head, sum) = head(self.sum, start as u64, bytes);
         let Some(place) = self.end.checked_add(HEAD_LEN as u64) else {
             return Err(io::ErrorKind::FileTooLarge.into());
         };
         let Some(end) = place.checked_add(bytes.len() as u64) else {
             return Err(io::ErrorKind::FileTooLarge.into());
         };
+        self.mark.prepare()?;
         self.is_unsure = true;
         self.log.write_all_at(&head, self.end)?;
         self.log.write_all_at(bytes, place)?;
         self.log.sync_data()?;
+        self.mark.complete()?;
         self.is_unsure = false;
         self.end = end;
+        self.sum = sum;
         Ok(())
     }
 }

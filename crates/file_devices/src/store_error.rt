@@ -12,8 +12,16 @@ pub enum StoreError {
     #[error("the folder is no store: it has other files, and no file `store` of one")]
     NotAStore,
     /// The file `store` has another text, or is no more than begun beside a log that isn't empty.
-    #[error("the file `store` is of another format or version: it isn't `jakumshe store 1`")]
+    #[error("the file `store` is of another format or version: it is neither `jakumshe store 1` nor one of version 2")]
     Version,
+    /// The folder has something else under this name: a folder, a pipe or a device.
+    #[error("{file} is no plain file")]
+    NotAFile {
+        file: StoreFile,
+    },
+    /// The file `store` says that the log has had a block, and the log has none.
+    #[error("the store's file `log` has no block, and its file `store` says that it has had one")]
+    Emptied,
     /// A block of the log's file isn't what was written. It begins at this byte of the file, the first one being 0.
     #[error("the store's file `log`: the block at byte {place} isn't what was written there")]
     Damaged {
@@ -59,6 +67,7 @@ pub enum Tried {
     Read,
     Write,
     Sync,
+    Rename,
 }
 
 impl fmt::Display for Tried {
@@ -71,6 +80,7 @@ impl fmt::Display for Tried {
             Tried::Read => "read",
             Tried::Write => "write",
             Tried::Sync => "sync",
+            Tried::Rename => "rename",
         })
     }
 }
@@ -83,6 +93,10 @@ pub enum StoreFile {
     Parent,
     Mark,
     Log,
+    /// What is to take the place of that.
+    NewLog,
+    /// Where the system gives random numbers.
+    Random,
 }
 
 impl fmt::Display for StoreFile {
@@ -92,6 +106,8 @@ impl fmt::Display for StoreFile {
             StoreFile::Parent => "the folder above the store's",
             StoreFile::Mark => "the store's file `store`",
             StoreFile::Log => "the store's file `log`",
+            StoreFile::NewLog => "the store's file `log.new`",
+            StoreFile::Random => "`/dev/urandom`",
         })
     }
 }

@@ -1,19 +1,17 @@
 -- What the comparisons say of a head that passes them: it is the one that the block of its bytes has.
-use Rattle.std.proofs.Common.{◌≡◌, ℕ, ◌+◌, ◌<◌, ◌≤◌, ◌^◌, Bool, true, false, not, eqb, List, ◌++◌, length, take, drop, slice_index, replicate, sym, ap, subst, refl, ◌∙◌, arith, inl, inr}
-use Rattle.std.specs.Int.{w64, from_be_bytes}
-use Rattle.std.specs.List.{starts_with}
-use Rattle.std.specs.Cmp.Lexicographic.{pointwise}
-use Rattle.std.proofs.Math.Seq.{take-add}
-use Rattle.std.proofs.lemmas.Bool.{cases_lt, not-false}
+use Rattle.std.proofs.Common.{◌≡◌, ℕ, ◌+◌, ◌*◌, ◌-◌, ◌<◌, ◌≤◌, ◌^◌, Bool, true, eqb, List, ◌++◌, length, take, drop, slice_index, replicate, sym, ap, subst, refl, ◌∙◌, arith, inl, inr}
+use Rattle.std.specs.List.{starts_with, ends_with}
+use Rattle.std.proofs.lemmas.Bool.{cases_lt}
 use Rattle.std.proofs.lemmas.Bool.Decides.{Decides-eqb}
-use Rattle.std.proofs.lemmas.Nat.{be_bytes_8}
-use Rattle.std.proofs.lemmas.List.{get_or-take, get_or-drop, get_or_past, length-replicate, length-take, length-drop, take_at, take-append-drop, take_rest, take-take}
-use Rattle.std.proofs.lemmas.Slice.Eq.{slice_eq-Decides, starts_is}
+use Rattle.std.proofs.lemmas.List.{append_assoc, length-append, get_or-take, get_or-drop, get_or_past, length-replicate, length-take, length-drop, take_at, drop_at, take-append-drop, take_rest, take-take, drop-drop}
+use Rattle.std.proofs.lemmas.Slice.Eq.{starts_is, ends_is}
 use Rattle.byteorder.specs.Endian.{big_from, big_number}
-use Rattle.byteorder.specs.Numbers.{big_from-take}
-use Rattle.md5.specs.Md5.{md5}
-use Rattle.log_blocks.specs.Blocks.{Write, number, fields, sealed, head_at, block_of, EndsWithin, InBlock}
-use Rattle.log_blocks.proofs.Heads.{from_place}
+use Rattle.byteorder.specs.Numbers.{big_from-lt}
+use Rattle.log_blocks.specs.declared.before.Before.{Before}
+use Rattle.log_blocks.specs.declared.block.Block.{Block}
+use Rattle.log_blocks.specs.Blocks.{Write, start_of, bytes_of, front_of, sum_in, head_len, block_of, CanStand, EndsWithin, InBlock}
+use Rattle.log_blocks.specs.Steps.{found, IsFound}
+use Rattle.log_blocks.proofs.Parts.{from_place, length-front_of, length-sum_in}
 
 -- ---- numbers
 
@@ -32,93 +30,94 @@ bytes_front n xs small i = elim (cases_lt i n) [
 bytes_behind_first : (n : ℕ) (xs : List ℕ) → AreBytes xs → AreBytes (drop n xs)
 bytes_behind_first n xs small i = rw (get_or-drop n xs i 0) (small (n + i))
 
--- the number that was read has the eight bytes in front
-number_again : (xs : List ℕ) (n : ℕ) → 8 ≤ length xs → AreBytes xs → n ≡ big_number 8 xs
-    → number n ≡ take 8 xs
-unfolding number
-number_again xs n long small read =
-    let whole : from_be_bytes w64 (take 8 xs) ≡ big_from 0 8 (take 8 xs) = omega arith in
-    let same : n ≡ from_be_bytes w64 (take 8 xs) = read ∙ sym (whole ∙ big_from-take 0 8 8 xs (omega arith)) in
-    be_bytes_8 (take 8 xs) n (omega (arith, length-take 8 xs)) (bytes_front 8 xs small) same
+-- seven bytes of a head have room for the start that is read from them
+pub new_start_fits : (n start : ℕ) (left head : List ℕ) → AreBytes left → head ≡ take n left
+    → start ≡ big_number 7 (from_place head 1) → start < 2 ^ 56
+new_start_fits n start left head small is read =
+    let bytes : AreBytes head = subst AreBytes (sym is) (bytes_front n left small) in
+    let below = big_from-lt 0 7 (drop 1 head) (bytes_behind_first 1 head bytes) in
+    let same : start ≡ big_number 7 (drop 1 head) = read ∙ ap (big_number 7) (take_rest head 1) in
+    subst (λ (m : ℕ). m < 2 ^ 56) (sym same) below
+
+-- so they have where the eighth is 0
+pub old_start_fits : (n start : ℕ) (left head : List ℕ) → AreBytes left → head ≡ take n left → 0 < n
+    → slice_index left 0 ≡ 0 → start ≡ big_number 8 head → start < 2 ^ 56
+old_start_fits n start left head small is some first read =
+    let bytes : AreBytes head = subst AreBytes (sym is) (bytes_front n left small) in
+    let below = big_from-lt 1 7 head bytes in
+    let zero_is : slice_index head 0 ≡ 0 =
+    ap (λ (xs : List ℕ). slice_index xs 0) is ∙ (get_or-take n left 0 0 some ∙ first) in
+    omega (arith, below, read, zero_is)
 
 -- ---- a head that passes
 
--- a file was parted at a place, and the checksum of the head's own that was made is the one that it has
-pub record IsSealed (file : List ℕ) (place : ℕ) (head behind seal : List ℕ) (start len : ℕ) : Type 0 where
-  pub bytes : AreBytes file
-  pub front : head ≡ take 40 (from_place file place)
-  pub back : behind ≡ drop 40 (from_place file place)
-  pub long : length head ≡ 40
-  pub start_is : start ≡ big_number 8 head
-  pub len_is : len ≡ big_number 8 (from_place head 8)
-  pub seal_is : seal ≡ md5 (number place ++ take 16 head)
-  pub right : starts_with eqb seal (take 8 (drop 16 head)) ≡ true
+-- the rest of a file was parted, and its head begins with this front
+pub record HasFront (left front head behind : List ℕ) (size : ℕ) : Type 0 where
+  pub head_is : head ≡ take size left
+  pub behind_is : behind ≡ drop size left
+  pub enough : size ≤ length left
+  pub long : 24 ≤ size
+  pub begins : head ≡ front ++ drop (length front) head
 
--- its first 16 bytes are the fields
-fields_again : (file : List ℕ) (place : ℕ) (head behind seal : List ℕ) (w : Write)
-    → IsSealed file place head behind seal w.start (length w.bytes) → take 16 head ≡ fields w
-fields_again file place head behind seal w is =
-    let head_is : head ≡ take 40 (drop place file) = is.front ∙ ap (take 40) (take_rest file place) in
-    let bytes : AreBytes head =
-    subst AreBytes (sym head_is) (bytes_front 40 (drop place file) (bytes_behind_first place file is.bytes)) in
-    let enough : 8 ≤ length head = omega (arith, is.long) in
-    let enough_behind : 8 ≤ length (drop 8 head) = omega (arith, is.long, length-drop 8 head) in
-    let first = number_again head w.start enough bytes is.start_is in
-    let second = number_again (drop 8 head) (length w.bytes) enough_behind (bytes_behind_first 8 head bytes)
-    (is.len_is ∙ ap (big_number 8) (take_rest head 8)) in
-    take-add 8 8 head ∙ rw (first, second) refl
+pub has_front : (left front made head behind : List ℕ) (size : ℕ) (begins : Bool) → head ≡ take size left
+    → behind ≡ drop size left → size ≤ length left → 24 ≤ size → made ≡ front → begins ≡ starts_with eqb head made
+    → begins ≡ true → HasFront left front head behind size
+has_front left front made head behind size begins first back enough long same compared right = record {
+  head_is = first;
+  behind_is = back;
+  enough = enough;
+  long = long;
+  begins =
+      let whole = (starts_is Decides-eqb head made begins compared).0 right in
+      subst (λ (xs : List ℕ). head ≡ xs ++ drop (length xs) head) same whole;
+}
 
--- its first 24 bytes are those of the head of such a block
-sealed_again : (file : List ℕ) (place : ℕ) (head behind seal : List ℕ) (w : Write)
-    → IsSealed file place head behind seal w.start (length w.bytes) → take 24 head ≡ sealed place w
-sealed_again file place head behind seal w is =
-    let numbers = fields_again file place head behind seal w is in
-    let compared = take 8 (drop 16 head) in
-    let begins : seal ≡ compared ++ drop (length compared) seal =
-    (starts_is Decides-eqb seal compared _ refl).0 is.right in
-    let eight : length compared ≡ 8 = omega (arith, is.long, length-take 8 (drop 16 head), length-drop 16 head) in
-    let front : take 8 seal ≡ compared = ap (take 8) begins ∙ take_at compared (drop (length compared) seal) 8 eight in
-    take-add 16 8 head ∙ rw (sym front, is.seal_is, numbers) refl
+-- its first bytes are the front
+front_again : (left front head behind : List ℕ) (size : ℕ) → HasFront left front head behind size → length front ≡ 24
+    → take 24 left ≡ front
+front_again left front head behind size is eight =
+    sym (take-take 24 size left is.long)
+    ∙ (ap (take 24) (sym is.head_is)
+    ∙ (ap (take 24) is.begins ∙ take_at front (drop (length front) head) 24 eight))
 
--- the write whose block is accepted
-abbrev pub accepted : List ℕ → ℕ → ℕ → Write
-accepted left start len = record { start = start; bytes = take len (drop 40 left) }
+-- the file ends within the block that it begins
+pub ends_within : (before : Before) (w : Write) (left head behind : List ℕ)
+    → HasFront left (front_of before w) head behind (head_len w) → CanStand before w → length behind < length (bytes_of w)
+    → length (bytes_of w) < 2 ^ 64 → EndsWithin before left
+ends_within before w left head behind is stands short fits =
+    let first = front_again left (front_of before w) head behind (head_len w) is (length-front_of before w) in
+    InBlock w stands first fits (omega (arith, short, is.enough, ap length is.behind_is, length-drop (head_len w) left))
 
--- its block stands there
-pub block_again : (file : List ℕ) (place : ℕ) (head behind seal sum : List ℕ) (start len : ℕ) (different : Bool)
-    → IsSealed file place head behind seal start len → len ≤ length behind → sum ≡ md5 (take 24 head ++ take len behind)
-    → different ≡ not (pointwise eqb sum (from_place head 24)) → different ≡ false
-    → take (40 + len) (drop place file) ≡ block_of place (accepted (drop place file) start len)
+-- the block stands there where its head also ends with its checksum
+pub block_again : (before : Before) (w : Write) (left head behind sum : List ℕ) (len : ℕ) (ended : Bool) (block : Block)
+    → HasFront left (front_of before w) head behind (head_len w) → CanStand before w → start_of w ≤ len
+    → length (bytes_of w) ≤ length behind → bytes_of w ≡ take (length (bytes_of w)) behind
+    → ended ≡ ends_with eqb head sum → ended ≡ true → sum ≡ sum_in before w
+    → block ≡ found before w → IsFound before left len block
 unfolding block_of
-block_again file place head behind seal sum start len different is room made compared equal =
-    let left = drop place file in
-    let w = accepted left start len in
-    let head_is : head ≡ take 40 left = is.front ∙ ap (take 40) (take_rest file place) in
-    let behind_is : behind ≡ drop 40 left = is.back ∙ ap (drop 40) (take_rest file place) in
-    let size : length w.bytes ≡ len = omega (arith, room, ap length behind_is, length-take len (drop 40 left)) in
-    let sealed_is : take 24 head ≡ sealed place w =
-    sealed_again file place head behind seal w (subst (IsSealed file place head behind seal start) (sym size) is) in
-    let same : pointwise eqb sum (from_place head 24) ≡ true = not-false _ (sym compared ∙ equal) in
-    let sum_is : sum ≡ drop 24 head =
-    (slice_eq-Decides Decides-eqb sum (from_place head 24) _ refl).0 same ∙ take_rest head 24 in
-    let whole : head ≡ head_at place w =
-    sym (take-append-drop 24 head) ∙ rw (sealed_is, sym sum_is, made, sealed_is, behind_is) refl in
-    take-add 40 len left ∙ ap (λ (xs : List ℕ). xs ++ w.bytes) (sym head_is ∙ whole)
-
--- the file ends within the block that a head begins
-pub ends_within : (file : List ℕ) (place : ℕ) (head behind seal : List ℕ) (start len : ℕ)
-    → IsSealed file place head behind seal start len → length behind < len
-    → len < 2 ^ 64 → EndsWithin place (drop place file)
-ends_within file place head behind seal start len is short fits =
-    let left = drop place file in
-    let w : Write = record { start = start; bytes = replicate len 0 } in
-    let size : length w.bytes ≡ len = length-replicate len 0 in
-    let head_is : head ≡ take 40 left = is.front ∙ ap (take 40) (take_rest file place) in
-    let behind_is : behind ≡ drop 40 left = is.back ∙ ap (drop 40) (take_rest file place) in
-    let sealed_is : take 24 head ≡ sealed place w =
-    sealed_again file place head behind seal w (subst (IsSealed file place head behind seal start) (sym size) is) in
-    let first : take 24 left ≡ sealed place w =
-    sym (take-take 24 40 left (omega arith)) ∙ (ap (take 24) (sym head_is) ∙ sealed_is) in
-    let total : length left ≡ 40 + length behind =
-    omega (arith, is.long, ap length head_is, length-take 40 left, ap length behind_is, length-drop 40 left) in
-    InBlock w first (omega (arith, size, fits)) (omega (arith, size, short, total))
+block_again before w left head behind sum len ended block is stands within room bytes compared right sum_is block_is =
+    let ends = (ends_is Decides-eqb head sum ended compared).0 right in
+    let size : 24 + length sum ≡ head_len w = omega (arith, ap length sum_is, length-sum_in before w) in
+    let n = length (bytes_of w) in
+    let front = front_of before w in
+    let first = front_again left (front_of before w) head behind (head_len w) is (length-front_of before w) in
+    let long : length head ≡ head_len w = omega (arith, ap length is.head_is, length-take (head_len w) left, is.enough) in
+    let at : length head - length sum ≡ 24 = omega (arith, long, size) in
+    let begin : take 24 head ≡ front_of before w =
+    ap (take 24) is.head_is ∙ (take-take 24 (head_len w) left is.long ∙ first) in
+    let whole : head ≡ front_of before w ++ sum_in before w =
+    ends ∙ (ap (λ (k : ℕ). take k head ++ sum) at ∙ rw (begin, sum_is) refl) in
+    let rest : drop (length (bytes_of w)) behind ≡ drop (head_len w + length (bytes_of w)) left =
+    ap (drop n) is.behind_is ∙ drop-drop n (head_len w) left in
+    record {
+      w = w;
+      stands = stands;
+      within = within;
+      block_is = block_is;
+      here =
+          sym (take-append-drop (head_len w) left)
+          ∙ (rw (← is.head_is, ← is.behind_is) refl
+          ∙ (ap (λ (xs : List ℕ). xs ++ behind) whole
+          ∙ (ap (λ (xs : List ℕ). (front ++ sum_in before w) ++ xs) (sym (take-append-drop n behind) ∙ rw (← bytes, rest) refl)
+          ∙ sym (append_assoc (front ++ sum_in before w) (bytes_of w) _))));
+    }

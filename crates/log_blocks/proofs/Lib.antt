@@ -1,3 +1,3 @@
 mod Accepts
-mod Heads
+mod Parts
 mod Reading

@@ -1,18 +1,13 @@
 //! One block after another.
-ghost use Rattle.std.specs.Prelude.{◌≤◌, ◌+◌, ◌≡◌, ◌++◌, [], ℕ, List, length, take, drop, Ok, Some, None, IfOk, IfErr, IfSome};
-ghost use Rattle.md5.specs.Md5.{md5};
-ghost use Rattle.log_blocks.specs.Blocks.{Write, number, head_at, block_of, packed, written, IsTorn, Keeps, EndsWithin, IsUnpacked, IsDamaged};
+ghost use Rattle.std.specs.Prelude.{◌≡◌, ◌<◌, ◌≤◌, ◌+◌, ◌^◌, ◌++◌, [], ℕ, List, length, slice_index, take, true, Ok, Some, None, IfOk, IfErr, IfSome};
+ghost use Rattle.log_blocks.specs.Blocks.{Write, Old, New, start_of, bytes_of, head_len, block_of, front_of, beginning, packed, passed, written, CanStand, Keeps, EndsWithin, IsUnpacked, IsDamaged};
+ghost use Rattle.log_blocks.specs.Steps.{found, IsFound};
 
+use crate::before::Before;
+use crate::heads::{HEAD_LEN, front};
+use crate::sums::{sum_all, sum_pairs};
+use crate::version_1::{OLD_HEAD_LEN, OLD_VERSION, digest, old_front};
 use byteorder::{BigEndian, ByteOrder};
-use md5::{Digest, Md5};
-
-/// How long a block's head is, in bytes.
-pub const HEAD_LEN: usize = 40;
-
-// Where the checksum of what stands before it in a head begins, and that of the whole block.
-const SEAL: usize = 16;
-
-const SUM: usize = 24;
 
 /// A block isn't what was written. It begins at this byte of the file, the first one being 0.
 #[derive(Clone, Copy, Debug, PartialEq, Eq, Drop)]
@@ -27,104 +22,178 @@ pub struct Unpacked {
     pub len: usize,
     /// Where the last whole block ended. Behind it there may be a torn one.
     pub end: usize,
+    /// The checksum of all up to there, which the next block's head is made from.
+    pub sum: u64,
 }
 
-/// The bytes of a block in the log: they go behind its first `start`, and the log has no others behind these.
+/// The bytes of a block in the file, from a place on, and in the log: they go behind its first `start`, and the log has no
+/// others behind these.
 #[derive(Clone, Copy)]
-struct Block {
+pub(crate) struct Block {
     start: usize,
+    from: usize,
     len: usize,
+    // What stands before the next block.
+    after: Before,
 }
 
-/// The head of a block that goes to a place of the file: these bytes stand behind the first `start` of the log.
-pub fn head(place: u64, start: u64, bytes: &[u8]) -> [u8; HEAD_LEN]
-    ensures { result ≡ head_at place (record { start = start; bytes = bytes.now }) }
-{
-    let mut head = [0; HEAD_LEN];
-    BigEndian::write_u64(&mut head, start);
-    BigEndian::write_u64(&mut head[8..], bytes.len() as u64);
-    let seal = seal_of(place, &head[..SEAL]);
-    head[SEAL..SUM].copy_from_slice(&seal[..SUM - SEAL]);
-    let sum = digest(&head[..SUM], bytes);
-    head[SUM..].copy_from_slice(&sum);
-    head
-}
-
-/// Makes of a file's bytes those of its log, which take the place of the first ones. Refused at the first place where neither
-/// a block stands nor the file ends within one. What was written is read back, also where the last block is torn.
-pub fn unpack(file: &mut [u8]) -> Result<Unpacked, Damaged>
+/// Makes of the bytes of a file of a store's those of its log, which take the place of the first ones. The store's number
+/// is 0 where it began as version 1. Refused at the first place where neither a block stands nor the file ends within one.
+/// What was written is read back, also where the last block is torn.
+pub fn unpack(file: &mut [u8], store: u64) -> Result<Unpacked, Damaged>
     ensures len { IfOk result (λ unpacked. unpacked.len ≤ unpacked.end) }
     ensures end { IfOk result (λ unpacked. unpacked.end ≤ length file.new) }
     ensures room { length file.new ≡ length file.old }
-    ensures read { (ws : List Write) → Keeps file.old ws
-        → result ≡ Ok (record { len = length (written [] ws); end = length (packed 0 ws) }) }
-    ensures log { (ws : List Write) → Keeps file.old ws
+    ensures read { (ws : List Write) → Keeps store file.old ws → result ≡ Ok (record {
+      len = length (written [] ws);
+      end = length (packed (beginning store) ws);
+      sum = (passed (beginning store) ws).sum;
+    }) }
+    ensures log { (ws : List Write) → Keeps store file.old ws
         → take (length (written [] ws)) file.new ≡ written [] ws }
-    ensures unpacked { IfOk result (λ unpacked. IsUnpacked file.old file.new unpacked.len unpacked.end) }
-    ensures refused { IfErr result (λ damaged. IsDamaged file.old damaged.place) }
+    ensures unpacked { IfOk result (λ unpacked.
+        IsUnpacked store file.old file.new unpacked.len unpacked.end unpacked.sum) }
+    ensures refused { IfErr result (λ damaged. IsDamaged store file.old damaged.place) }
 {
-    let mut end = 0;
+    let mut before = Before {
+        place: 0,
+        sum: store,
+        takes_old: store == 0,
+    };
     let mut len = 0;
-    while let Some(block) = block_at(file, end, len)? {
-        let from = end + HEAD_LEN;
-        file.copy_within(from..from + block.len, block.start);
+    while let Some(block) = block_at(&file[before.place..], before, len)? {
+        file.copy_within(block.from..block.from + block.len, block.start);
         len = block.start + block.len;
-        end = from + block.len;
+        before = block.after;
     }
-    Ok(Unpacked { len, end })
+    Ok(Unpacked {
+        len,
+        end: before.place,
+        sum: before.sum,
+    })
 }
 
-/// The block at a place of the file, where the log has so many bytes before it; none where the file ends within it.
-/// Only a head whose own checksum is right says where that is: so a length that is damaged isn't taken for a torn block.
-fn block_at(file: &[u8], place: usize, before: usize) -> Result<Option<Block>, Damaged>
-    requires { place ≤ length file.now }
-    ensures start { IfOk result (λ found. IfSome found (λ block. block.start ≤ before)) }
-    ensures end { IfOk result (λ found. IfSome found (λ block. place + HEAD_LEN + block.len ≤ length file.now)) }
-    ensures whole { (w : Write) (rest : List ℕ) → drop place file.now ≡ block_of place w ++ rest → w.start ≤ before
-        → result ≡ Ok (Some (record { start = w.start; len = length w.bytes })) }
-    ensures torn { IsTorn place (drop place file.now) → result ≡ Ok None }
-    ensures right { IfOk result (λ found. IfSome found (λ block. take (HEAD_LEN + block.len) (drop place file.now)
-        ≡ block_of place (record { start = block.start; bytes = take block.len (drop HEAD_LEN (drop place file.now)) }))) }
-    ensures ends { EndsWithin place (drop place file.now) → result ≡ Ok None }
-    ensures none { result ≡ Ok None → EndsWithin place (drop place file.now) }
-    ensures refused { IfErr result (λ damaged. damaged.place ≡ place) }
+/// The block with which the rest of a file begins, where the log has so many bytes before it; none where the file ends
+/// within it. Only a head whose own checksum is right says where that is: so a length that is damaged isn't taken for a
+/// torn block.
+fn block_at(left: &[u8], before: Before, len: usize) -> Result<Option<Block>, Damaged>
+    requires { before.place + length left.now < 2 ^ 64 }
+    ensures whole { (w : Write) (rest : List ℕ) → left.now ≡ block_of before w ++ rest → CanStand before w
+        → start_of w ≤ len → result ≡ Ok (Some (found before w)) }
+    ensures ends { EndsWithin before left.now → result ≡ Ok None }
+    ensures start { IfOk result (λ found. IfSome found (λ block. block.start ≤ len)) }
+    ensures from { IfOk result (λ found. IfSome found (λ block. before.place < block.from)) }
+    ensures to { IfOk result (λ found. IfSome found (λ block. block.from + block.len ≡ block.after.place)) }
+    ensures end { IfOk result (λ found. IfSome found (λ block. block.after.place ≤ before.place + length left.now)) }
+    ensures right { IfOk result (λ found. IfSome found (λ block. IsFound before left.now len block)) }
+    ensures none { result ≡ Ok None → EndsWithin before left.now }
+    ensures refused { IfErr result (λ damaged. damaged.place ≡ before.place) }
 {
-    let left = &file[place..];
     if left.len() < HEAD_LEN {
         return Ok(None);
     }
-    let (head, bytes) = left.split_at(HEAD_LEN);
-    let place = place as u64;
-    let seal = seal_of(place, &head[..SEAL]);
-    if !seal.starts_with(&head[SEAL..SUM]) {
-        return Err(Damaged { place });
+    if before.takes_old && left[0] == OLD_VERSION {
+        old_block(left, before, len)
+    } else {
+        new_block(left, before, len)
     }
-    let start = BigEndian::read_u64(head);
-    let len = BigEndian::read_u64(&head[8..]);
-    if (bytes.len() as u64) < len {
+}
+
+fn new_block(left: &[u8], before: Before, len: usize) -> Result<Option<Block>, Damaged>
+    requires head { 32 ≤ length left.now }
+    requires place { before.place + length left.now < 2 ^ 64 }
+    ensures whole { (start : ℕ) (bytes rest : List ℕ) → left.now ≡ block_of before (New start bytes) ++ rest
+        → start < 2 ^ 56 → start ≤ len → result ≡ Ok (Some (found before (New start bytes))) }
+    ensures ends { (start : ℕ) (bytes : List ℕ) → take 24 left.now ≡ front_of before (New start bytes) → start < 2 ^ 56
+        → length bytes < 2 ^ 64 → length left.now < 32 + length bytes → result ≡ Ok None }
+    ensures start { IfOk result (λ found. IfSome found (λ block. block.start ≤ len)) }
+    ensures from { IfOk result (λ found. IfSome found (λ block. before.place < block.from)) }
+    ensures to { IfOk result (λ found. IfSome found (λ block. block.from + block.len ≡ block.after.place)) }
+    ensures end { IfOk result (λ found. IfSome found (λ block. block.after.place ≤ before.place + length left.now)) }
+    ensures right { IfOk result (λ found. IfSome found (λ block. IsFound before left.now len block)) }
+    ensures none { result ≡ Ok None → EndsWithin before left.now }
+    ensures refused { IfErr result (λ damaged. damaged.place ≡ before.place) }
+{
+    let (head, bytes) = left.split_at(HEAD_LEN);
+    let start = BigEndian::read_uint(&head[1..], 7);
+    let size = BigEndian::read_u64(&head[8..]);
+    let (front, seal) = front(before.sum, start, size);
+    let damaged = Damaged {
+        place: before.place as u64,
+    };
+    if !head.starts_with(&front) {
+        return Err(damaged);
+    }
+    if (bytes.len() as u64) < size {
         return Ok(None);
     }
-    let (start, len) = (start as usize, len as usize);
-    let sum = digest(&head[..SUM], &bytes[..len]);
-    if before < start || sum.as_slice() != &head[SUM..] {
-        return Err(Damaged { place });
+    let size = size as usize;
+    let sum = sum_all(seal, &bytes[..size]);
+    if (len as u64) < start || !head.ends_with(&sum.to_be_bytes()) {
+        return Err(damaged);
     }
-    Ok(Some(Block { start, len }))
+    let from = before.place + HEAD_LEN;
+    let after = Before {
+        place: from + size,
+        sum,
+        takes_old: false,
+    };
+    Ok(Some(Block {
+        start: start as usize,
+        from,
+        len: size,
+        after,
+    }))
 }
 
-/// The checksum of a block's place in the file and of its two numbers.
-fn seal_of(place: u64, fields: &[u8]) -> [u8; 16]
-    ensures { result ≡ md5 (number place ++ fields.now) }
+fn old_block(left: &[u8], before: Before, len: usize) -> Result<Option<Block>, Damaged>
+    requires version { before.takes_old ≡ true }
+    requires first { slice_index left.now 0 ≡ 0 }
+    requires place { before.place + length left.now < 2 ^ 64 }
+    ensures whole { (start : ℕ) (bytes rest : List ℕ) → left.now ≡ block_of before (Old start bytes) ++ rest
+        → start < 2 ^ 56 → start ≤ len → result ≡ Ok (Some (found before (Old start bytes))) }
+    ensures ends { (start : ℕ) (bytes : List ℕ) → take 24 left.now ≡ front_of before (Old start bytes) → start < 2 ^ 56
+        → length bytes < 2 ^ 64 → length left.now < 40 + length bytes → result ≡ Ok None }
+    ensures in_head { length left.now < 40 → result ≡ Ok None }
+    ensures start { IfOk result (λ found. IfSome found (λ block. block.start ≤ len)) }
+    ensures from { IfOk result (λ found. IfSome found (λ block. before.place < block.from)) }
+    ensures to { IfOk result (λ found. IfSome found (λ block. block.from + block.len ≡ block.after.place)) }
+    ensures end { IfOk result (λ found. IfSome found (λ block. block.after.place ≤ before.place + length left.now)) }
+    ensures right { IfOk result (λ found. IfSome found (λ block. IsFound before left.now len block)) }
+    ensures none { result ≡ Ok None → EndsWithin before left.now }
+    ensures refused { IfErr result (λ damaged. damaged.place ≡ before.place) }
 {
-    digest(&place.to_be_bytes(), fields)
-}
-
-/// The MD5 of one after the other.
-fn digest(first: &[u8], second: &[u8]) -> [u8; 16]
-    ensures { result ≡ md5 (first.now ++ second.now) }
-{
-    let mut hasher = Md5::new();
-    hasher.update(first);
-    hasher.update(second);
-    hasher.finalize()
+    if left.len() < OLD_HEAD_LEN {
+        return Ok(None);
+    }
+    let (head, bytes) = left.split_at(OLD_HEAD_LEN);
+    let start = BigEndian::read_u64(head);
+    let size = BigEndian::read_u64(&head[8..]);
+    let front = old_front(before.place as u64, start, size);
+    let damaged = Damaged {
+        place: before.place as u64,
+    };
+    if !head.starts_with(&front) {
+        return Err(damaged);
+    }
+    if (bytes.len() as u64) < size {
+        return Ok(None);
+    }
+    let size = size as usize;
+    let sum = digest(&front, &bytes[..size]);
+    if (len as u64) < start || !head.ends_with(&sum) {
+        return Err(damaged);
+    }
+    let from = before.place + OLD_HEAD_LEN;
+    let after = Before {
+        place: from + size,
+        sum: sum_pairs(before.sum, &sum),
+        takes_old: true,
+    };
+    Ok(Some(Block {
+        start: start as usize,
+        from,
+        len: size,
+        after,
+    }))
 }

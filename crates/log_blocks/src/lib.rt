@@ -7,6 +7,11 @@
 //! ends within one, and the place that it refuses is the first where neither a block stands nor the file ends within one.
 #![tactic(auto)]
 
+mod before;
 mod block;
+mod heads;
+mod sums;
+mod version_1;
 
-pub use block::{Damaged, HEAD_LEN, Unpacked, head, unpack};
+pub use block::{Damaged, Unpacked, unpack};
+pub use heads::{HEAD_LEN, head};

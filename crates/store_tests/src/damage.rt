@@ -1,7 +1,7 @@
 //! A log of which a byte is changed, or the last bytes are missing.
 use crate::counts::Counts;
 use crate::files;
-use crate::opened::{put_run, put_run_in_memory};
+use crate::opened::{Way, put_run, put_run_in_memory};
 use node_shell::refusal_of;
 use record_key::Refusal;
 use std::ops::Range;
@@ -41,7 +41,7 @@ fn put_run_on_file(
     outcome: &mut String,
 ) -> Result<(), Refusal> {
     files::write(rt, files::LOG, bytes).map_err(|error| refusal_of(&error))?;
-    let has_run = put_run(rt, script, outcome)?;
+    let has_run = put_run(rt, Way::Writing, script, outcome)?;
     if !has_run && !is_log(rt, bytes)? {
         outcome.push_str(" changed")?;
     }

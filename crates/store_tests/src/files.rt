@@ -35,6 +35,11 @@ pub fn read(rt: &HostRuntime, name: &str) -> io::Result<Vec<u8>> {
     fs::read(rt, path(rt, name)?.as_str())
 }
 
+/// Makes a folder where a file is looked for.
+pub fn make_folder(rt: &HostRuntime, name: &str) -> io::Result<()> {
+    fs::create_dir(rt, path(rt, name)?.as_str())
+}
+
 pub fn remove_one(rt: &HostRuntime, name: &str) -> io::Result<()> {
     fs::remove_file(rt, path(rt, name)?.as_str())
 }

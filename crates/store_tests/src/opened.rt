@@ -1,6 +1,6 @@
 //! The store of the folder, or a log in memory, opened and closed again.
 use crate::files::FOLDER;
-use file_devices::{FileLog, NoPages, StoreError, open_store};
+use file_devices::{FileLog, NoPages, StoreError, open_store, read_store};
 use node_shell::{DONE, run_on};
 use node_store::{Cause, open};
 use record_key::Refusal;
@@ -15,10 +15,26 @@ pub enum Refused {
     Node(Cause),
 }
 
+/// What a store is opened for.
+#[derive(Clone, Copy)]
+pub enum Way {
+    Writing,
+    Reading,
+}
+
 /// Opens the store, runs the script on it, appends the script's text and closes it. Gives the exit status.
-pub fn run_script(rt: &HostRuntime, script: &[u8], text: &mut Vec<u8>) -> Result<u8, Refused> {
+fn run_script(
+    rt: &HostRuntime,
+    way: Way,
+    script: &[u8],
+    text: &mut Vec<u8>,
+) -> Result<u8, Refused> {
     let alloc = rt.alloc();
-    match open_store(rt, FOLDER) {
+    let opened = match way {
+        Way::Writing => open_store(rt, FOLDER),
+        Way::Reading => read_store(rt, FOLDER),
+    };
+    match opened {
         Ok(log) => match open(alloc, log, FileLog::volatile(alloc), NoPages::new()) {
             Ok(world) => Ok(run_on(alloc, world, true, &mut { script }, text)),
             Err(left) => Err(Refused::Node(left.cause)),
@@ -29,9 +45,14 @@ pub fn run_script(rt: &HostRuntime, script: &[u8], text: &mut Vec<u8>) -> Result
 
 /// Appends what the script comes to on the store: the lines of its text with `; ` between two, and the exit status if
 /// it isn't 0; or why it isn't run. Gives whether it is.
-pub fn put_run(rt: &HostRuntime, script: &[u8], answer: &mut String) -> Result<bool, Refusal> {
+pub fn put_run(
+    rt: &HostRuntime,
+    way: Way,
+    script: &[u8],
+    answer: &mut String,
+) -> Result<bool, Refusal> {
     let mut text = Vec::new(rt.alloc());
-    match run_script(rt, script, &mut text) {
+    match run_script(rt, way, script, &mut text) {
         Ok(status) => {
             put_text(&text, status, answer)?;
             Ok(true)
@@ -108,6 +129,8 @@ pub fn put_store_error(why: StoreError, answer: &mut String) -> Result<(), Refus
         StoreError::Locked => answer.push_str("Locked")?,
         StoreError::NotAStore => answer.push_str("NotAStore")?,
         StoreError::Version => answer.push_str("Version")?,
+        StoreError::NotAFile { file } => write!(answer, "NotAFile {file}")?,
+        StoreError::Emptied => answer.push_str("Emptied")?,
         StoreError::Damaged { place } => write!(answer, "Damaged {place}")?,
         StoreError::Io { tried, file, .. } => write!(answer, "Io {tried} {file}")?,
         StoreError::NoMemory => return Err(Refusal::NoMemory),

@@ -2,7 +2,7 @@
 use crate::counts::Counts;
 use crate::damage::{Device, count_cuts, count_flips, count_raised};
 use crate::files;
-use crate::opened::{put_run, put_store_error};
+use crate::opened::{Way, put_run, put_store_error};
 use file_devices::{FileLog, open_store};
 use node_shell::refusal_of;
 use record_key::Refusal;
@@ -37,12 +37,16 @@ impl<'a> Stores<'a> {
         done(files::remove(self.rt))
     }
 
-    /// Opens the store and keeps its log.
+    /// Opens the store and keeps its log; tells of the torn block that was left out.
     fn hold(&mut self, answer: &mut String) -> Result<(), Refusal> {
         match open_store(self.rt, files::FOLDER) {
             Ok(log) => {
+                answer.push_str("opened")?;
+                if let Some(torn) = log.torn() {
+                    write!(answer, " without {} bytes at {}", torn.len, torn.place)?;
+                }
                 self.held = Some(log);
-                Ok(answer.push_str("opened")?)
+                Ok(())
             }
             Err(why) => put_store_error(why, answer),
         }
@@ -93,6 +97,7 @@ impl Subject for Stores<'_> {
             "new" => self.start(),
             "folder" => done(files::make(rt)),
             "put" => put_file(rt, &mut words),
+            "under" => done(files::make_folder(rt, words.word())),
             "remove" => done(files::remove_one(rt, words.word())),
             "files" => list(rt, answer),
             "bytes" => put_bytes(rt, words.word(), answer),
@@ -101,7 +106,8 @@ impl Subject for Stores<'_> {
                 self.held = None;
                 Ok(())
             }
-            "run" => run(rt, words.rest(), answer),
+            "run" => run(rt, Way::Writing, words.rest(), answer),
+            "read" => run(rt, Way::Reading, words.rest(), answer),
             "log" => {
                 self.log = words.text()?;
                 Ok(())
@@ -140,9 +146,9 @@ fn put_bytes(rt: &HostRuntime, name: &str, answer: &mut String) -> Result<(), Re
     put_text(answer, &bytes)
 }
 
-fn run(rt: &HostRuntime, lines: &str, answer: &mut String) -> Result<(), Refusal> {
+fn run(rt: &HostRuntime, way: Way, lines: &str, answer: &mut String) -> Result<(), Refusal> {
     let script = script_of(rt, lines)?;
-    put_run(rt, script.as_bytes(), answer)?;
+    put_run(rt, way, script.as_bytes(), answer)?;
     Ok(())
 }
 
