@@ -11,9 +11,28 @@
 #include <sys/stat.h>
 #include <unistd.h>
 
-static const char mark_text[] = "jakumshe store 1\n";
+static const char old_mark[] = "jakumshe store 1\n";
+static const char mark_start[] = "jakumshe store 2 ";
+static const char digits[] = "0123456789abcdef";
 
-enum { MARK_LENGTH = sizeof mark_text - 1 };
+/* Behind its beginning the text of the file `store` has the 16 digits of the store's number, and the line ends. */
+enum { START_LENGTH = sizeof mark_start - 1, DIGITS_END = START_LENGTH + 16, MARK_LENGTH };
+
+/* What the file `store` says. */
+enum mark {
+    MARK_OLD,      /* a store of version 1, which has no block of version 2 */
+    MARK_WHOLE,    /* a store that has had a block */
+    MARK_NUMBERED, /* one that has a number, and behind it no block that was forced: the line doesn't end */
+    MARK_BEGUN,    /* a beginning, perhaps nothing: a store that was about to be made */
+    MARK_OTHER
+};
+
+/* What is still to be written to it. */
+enum due {
+    DUE_NOTHING,
+    DUE_TEXT,    /* all of it, before the first block of version 2 of a store that began as version 1 */
+    DUE_LINE_END /* the end of the line, behind the first block that is forced */
+};
 
 /* The system refused a call. */
 static int refused(struct jakumshe_store *store)
@@ -98,23 +117,119 @@ static int has_only(int folder, const char *first, const char *second)
     return error != 0 ? -1 : only;
 }
 
+/* Whether the folder has a file of this name. What is no plain file is refused before it is opened: to open a pipe may
+ * wait for another process. */
+static int look(struct jakumshe_store *store, int folder, const char *name, int *is_there)
+{
+    struct stat found;
+    *is_there = fstatat(folder, name, &found, 0) == 0;
+    if (!*is_there)
+        return errno == ENOENT ? JAKUMSHE_DONE : refused(store);
+    return S_ISREG(found.st_mode) ? JAKUMSHE_DONE : JAKUMSHE_NOT_A_STORE;
+}
+
 /* Opens and locks the file `store`, which is made in an empty folder alone. */
 static int open_mark(struct jakumshe_store *store, int folder)
 {
-    store->mark = open_at(folder, "store", 0);
-    if (store->mark < 0 && errno == ENOENT) {
+    int is_there;
+    int status = look(store, folder, "store", &is_there);
+    if (status != JAKUMSHE_DONE)
+        return status;
+    if (!is_there) {
         int only = has_only(folder, "store", "store");
         if (only < 0)
             return refused(store);
         if (only == 0)
             return JAKUMSHE_NOT_A_STORE;
-        store->mark = open_at(folder, "store", O_CREAT);
     }
+    store->mark = open_at(folder, "store", is_there ? 0 : O_CREAT);
     if (store->mark < 0)
         return refused(store);
     if (flock(store->mark, LOCK_EX | LOCK_NB) == 0)
         return JAKUMSHE_DONE;
     return errno == EWOULDBLOCK ? JAKUMSHE_LOCKED : refused(store);
+}
+
+/* The text of a store of this number. */
+static void spell_mark(uint64_t number, char text[MARK_LENGTH])
+{
+    memcpy(text, mark_start, START_LENGTH);
+    for (int digit = 0; digit < 16; digit++)
+        text[START_LENGTH + digit] = digits[number >> (60 - 4 * digit) & 15];
+    text[DIGITS_END] = '\n';
+}
+
+/* What so many bytes of a text say, and the store's number, which is 0 where they have none. */
+static enum mark read_mark(const char *text, size_t length, uint64_t *number)
+{
+    char spelled[MARK_LENGTH];
+    *number = 0;
+    if (length == START_LENGTH && memcmp(text, old_mark, length) == 0)
+        return MARK_OLD;
+    if (length < START_LENGTH)
+        return memcmp(text, old_mark, length) == 0 || memcmp(text, mark_start, length) == 0 ? MARK_BEGUN : MARK_OTHER;
+    if (length > MARK_LENGTH)
+        return MARK_OTHER;
+    for (size_t place = START_LENGTH; place < length && place < DIGITS_END; place++) {
+        const char *digit = (const char *)memchr(digits, text[place], sizeof digits - 1);
+        if (digit == NULL)
+            return MARK_OTHER;
+        *number = *number << 4 | (uint64_t)(digit - digits);
+    }
+    if (length < DIGITS_END) {
+        *number = 0;
+        return memcmp(text, mark_start, START_LENGTH) == 0 ? MARK_BEGUN : MARK_OTHER;
+    }
+    spell_mark(*number, spelled);
+    if (memcmp(text, spelled, length) != 0)
+        return MARK_OTHER;
+    return length == MARK_LENGTH ? MARK_WHOLE : MARK_NUMBERED;
+}
+
+/* Writes a part of the text and syncs it: 0, or less than 0. */
+static int put_mark(struct jakumshe_store *store, const char *text, size_t length, uint64_t place)
+{
+    return put(store->mark, text, length, place) == 0 && fsync(store->mark) == 0 ? 0 : -1;
+}
+
+/* Writes what of the file `store` is due before a block, or behind it: 0, or less than 0. */
+static int put_due(struct jakumshe_store *store, enum due due)
+{
+    char text[MARK_LENGTH];
+    if (store->due != (int)due)
+        return 0;
+    spell_mark(0, text);
+    size_t first = due == DUE_TEXT ? 0 : DIGITS_END;
+    if (put_mark(store, text + first, MARK_LENGTH - first, first) != 0)
+        return -1;
+    store->due = DUE_NOTHING;
+    return 0;
+}
+
+/* A number that no other store is likely to have, and not that of a store that began as version 1: 0, or less than 0. */
+static int draw(uint64_t *number)
+{
+    int source = open("/dev/urandom", O_RDONLY | O_CLOEXEC);
+    if (source < 0)
+        return -1;
+    ssize_t length = read(source, number, sizeof *number);
+    int error = length < 0 ? errno : EIO;
+    close(source);
+    errno = error;
+    if (*number == 0)
+        *number = 1;
+    return length == sizeof *number ? 0 : -1;
+}
+
+/* Draws the store's number and writes it, without the end of the line. */
+static int number_store(struct jakumshe_store *store)
+{
+    char text[MARK_LENGTH];
+    if (draw(&store->sum) != 0)
+        return refused(store);
+    spell_mark(store->sum, text);
+    store->due = DUE_LINE_END;
+    return put_mark(store, text, DIGITS_END, 0) == 0 ? JAKUMSHE_DONE : refused(store);
 }
 
 /* Makes the log of a store that is about to be one, and syncs the folder and the one above it. The mark comes after. */
@@ -139,35 +254,45 @@ static int make_log(struct jakumshe_store *store, int folder)
     return status;
 }
 
-/* Opens the folder's two files. */
-static int open_files(struct jakumshe_store *store, int folder)
+/* Opens the folder's two files, and reads the number by which the log is unpacked. */
+static int open_files(struct jakumshe_store *store, int folder, enum mark *mark, uint64_t *number)
 {
     char text[MARK_LENGTH + 1];
+    int is_there;
     int status = open_mark(store, folder);
     if (status != JAKUMSHE_DONE)
         return status;
     ssize_t length = take(store->mark, text, sizeof text, 0);
     if (length < 0)
         return refused(store);
-    if (length > MARK_LENGTH || memcmp(text, mark_text, (size_t)length) != 0)
+    *mark = read_mark(text, (size_t)length, number);
+    if (*mark == MARK_OTHER)
         return JAKUMSHE_VERSION;
-    if (length < MARK_LENGTH) {
-        status = make_log(store, folder);
-        if (status != JAKUMSHE_DONE)
-            return status;
-    } else {
-        store->log = open_at(folder, "log", 0);
-        if (store->log < 0)
-            return refused(store);
-    }
-    /* Also where the text stands already: who wrote it may have been killed before its sync. */
-    if (put(store->mark, mark_text, MARK_LENGTH, 0) != 0 || fsync(store->mark) != 0)
+    status = look(store, folder, "log", &is_there);
+    if (status != JAKUMSHE_DONE)
+        return status;
+    if (*mark == MARK_BEGUN)
+        return make_log(store, folder);
+    store->log = open_at(folder, "log", 0);
+    return store->log < 0 ? refused(store) : JAKUMSHE_DONE;
+}
+
+/* Takes the text of the file `store` as it stands, or numbers the store. Behind a block the line ends. */
+static int settle_mark(struct jakumshe_store *store, enum mark mark, uint64_t number)
+{
+    if (mark == MARK_WHOLE && store->place == 0)
+        return JAKUMSHE_DAMAGED;
+    if (store->place == 0 && (mark != MARK_NUMBERED || number == 0))
+        return number_store(store);
+    /* Who wrote it may have been killed before its sync. */
+    if (fsync(store->mark) != 0)
         return refused(store);
-    return JAKUMSHE_DONE;
+    store->due = mark == MARK_OLD ? DUE_TEXT : mark == MARK_NUMBERED ? DUE_LINE_END : DUE_NOTHING;
+    return store->place == 0 || put_due(store, DUE_LINE_END) == 0 ? JAKUMSHE_DONE : refused(store);
 }
 
 /* Opens the node on what the log's file has. */
-static int open_node(struct jakumshe_store *store)
+static int open_node(struct jakumshe_store *store, enum mark mark, uint64_t number)
 {
     struct stat found;
     if (fsync(store->log) != 0 || fstat(store->log, &found) != 0)
@@ -183,9 +308,12 @@ static int open_node(struct jakumshe_store *store)
         status = refused(store);
     } else {
         size_t length, end;
-        status = jakumshe_raw_unpack(file, size, &length, &end);
-        store->is_unsure = status == JAKUMSHE_DONE && end < size;
-        store->place = end;
+        status = jakumshe_raw_unpack(file, size, number, &length, &end, &store->sum);
+        if (status == JAKUMSHE_DONE) {
+            store->is_unsure = end < size;
+            store->place = end;
+            status = settle_mark(store, mark, number);
+        }
         if (status == JAKUMSHE_DONE)
             status = jakumshe_raw_open_on(&store->node, file, length, &store->kept);
     }
@@ -215,9 +343,11 @@ int jakumshe_store_open(struct jakumshe_store *store, const char *folder)
     int opened = open(folder, O_RDONLY | O_DIRECTORY | O_CLOEXEC);
     if (opened < 0)
         return refused(store);
-    int status = open_files(store, opened);
+    enum mark mark = MARK_OTHER;
+    uint64_t number = 0;
+    int status = open_files(store, opened, &mark, &number);
     if (status == JAKUMSHE_DONE)
-        status = open_node(store);
+        status = open_node(store, mark, number);
     close(opened);
     if (status != JAKUMSHE_DONE)
         give_up(store);
@@ -228,15 +358,18 @@ int jakumshe_store_open(struct jakumshe_store *store, const char *folder)
 static int append(struct jakumshe_store *store, const uint8_t *bytes, size_t length)
 {
     struct jakumshe_head head;
-    jakumshe_raw_head(store->place, store->kept, bytes, length, &head);
+    uint64_t sum = store->sum;
+    jakumshe_raw_head(&sum, store->kept, bytes, length, &head);
     if (store->is_unsure && (ftruncate(store->log, (off_t)store->place) != 0 || fdatasync(store->log) != 0))
         return refused(store);
     store->is_unsure = 1;
-    if (put(store->log, head.bytes, sizeof head.bytes, store->place) != 0
-        || put(store->log, bytes, length, store->place + sizeof head.bytes) != 0 || fdatasync(store->log) != 0)
+    if (put_due(store, DUE_TEXT) != 0 || put(store->log, head.bytes, sizeof head.bytes, store->place) != 0
+        || put(store->log, bytes, length, store->place + sizeof head.bytes) != 0 || fdatasync(store->log) != 0
+        || put_due(store, DUE_LINE_END) != 0)
         return refused(store);
     store->is_unsure = 0;
     store->place += sizeof head.bytes + length;
+    store->sum = sum;
     store->kept += length;
     return JAKUMSHE_DONE;
 }

@@ -76,7 +76,7 @@ enum {
 
 #define JAKUMSHE_KEY_ROOM 32
 #define JAKUMSHE_VALUE_ROOM 120
-#define JAKUMSHE_HEAD_ROOM 40
+#define JAKUMSHE_HEAD_ROOM 32
 
 /* A place for one node. It starts as JAKUMSHE_CLOSED_NODE. */
 struct jakumshe_node {
@@ -128,10 +128,10 @@ int jakumshe_raw_save(struct jakumshe_node *node, uint64_t txn, uint64_t *savepo
 int jakumshe_raw_go_back(struct jakumshe_node *node, uint64_t txn, uint64_t savepoint);
 int jakumshe_raw_roll_back(struct jakumshe_node *node, uint64_t txn);
 int jakumshe_raw_commit(struct jakumshe_node *node, uint64_t txn);
-int jakumshe_raw_unpack(uint8_t *file, size_t size, size_t *length, size_t *end);
+int jakumshe_raw_unpack(uint8_t *file, size_t size, uint64_t number, size_t *length, size_t *end, uint64_t *sum);
 int jakumshe_raw_open_on(struct jakumshe_node *node, const uint8_t *log, size_t length, size_t *kept);
 int jakumshe_raw_log(struct jakumshe_node *node, size_t from, uint8_t *bytes, size_t room, size_t *length);
-void jakumshe_raw_head(uint64_t place, uint64_t start, const uint8_t *bytes, size_t length, struct jakumshe_head *head);
+void jakumshe_raw_head(uint64_t *sum, uint64_t start, const uint8_t *bytes, size_t length, struct jakumshe_head *head);
 void jakumshe_raw_name(int status, struct jakumshe_name *name);
 
 /* Whether there are bytes to read: a null pointer has none. */

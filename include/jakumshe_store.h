@@ -27,19 +27,22 @@ struct jakumshe_store {
     struct jakumshe_node node;
     int error;      /* errno of the system's call that was refused last */
     int mark;       /* the file `store`, which is locked as long as it is open */
+    int due;        /* what is still to be written to it */
     int log;        /* the file `log` */
     int is_unsure;  /* whether `log` may have bytes behind its whole blocks */
     uint64_t place; /* where the whole blocks of `log` end */
+    uint64_t sum;   /* the checksum of all up to there */
     size_t kept;    /* how many bytes of the node's log they have */
 };
 
-#define JAKUMSHE_CLOSED_STORE { JAKUMSHE_CLOSED_NODE, 0, -1, -1, 0, 0, 0 }
+#define JAKUMSHE_CLOSED_STORE { JAKUMSHE_CLOSED_NODE, 0, -1, 0, -1, 0, 0, 0, 0 }
 
 /*
  * Opens the store of a folder, which is made where it isn't there, and a node on it with all that was committed; who was
  * open is rolled back. No byte of the log is taken on trust: it is refused BAD_BYTES, WRONG_ANSWER or CHECKPOINT where it
- * is no log that a store can have, DAMAGED where a block of its file isn't what was written. Refused OPEN; LOCKED where
- * another has it open; NOT_A_STORE, VERSION; DEVICE where the system refused a call, `error` says why; NO_MEMORY.
+ * is no log that a store can have, DAMAGED where a block of its file isn't what was written, or none is left of those that
+ * it has had. Refused OPEN; LOCKED where another has it open; NOT_A_STORE, VERSION; DEVICE where the system refused a call,
+ * `error` says why; NO_MEMORY.
  */
 int jakumshe_store_open(struct jakumshe_store *store, const char *folder);
 

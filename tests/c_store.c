@@ -88,6 +88,10 @@ static void refuse_folders(const char *folder)
     EXPECT(0, mkdir(below(folder, "later"), 0777));
     write_file(below(folder, "later/store"), "jakumshe store 2\n");
     EXPECT(JAKUMSHE_VERSION, jakumshe_store_open(&store, below(folder, "later")));
+    write_file(below(folder, "later/store"), "jakumshe store 3 ");
+    EXPECT(JAKUMSHE_VERSION, jakumshe_store_open(&store, below(folder, "later")));
+    write_file(below(folder, "later/store"), "jakumshe store 2 000000000000000A");
+    EXPECT(JAKUMSHE_VERSION, jakumshe_store_open(&store, below(folder, "later")));
     write_file(below(folder, "later/store"), "jakumshe store 1\nx");
     EXPECT(JAKUMSHE_VERSION, jakumshe_store_open(&store, below(folder, "later")));
     write_file(below(folder, "later/store"), "jakumshe");
@@ -127,7 +131,93 @@ static void fail_to_write(const char *folder)
     EXPECT(JAKUMSHE_DONE, jakumshe_store_close(&store));
 }
 
-/* Each byte of a log's file is changed in turn, and the file is cut short to each length. */
+static size_t read_file(const char *path, uint8_t *bytes, size_t room)
+{
+    int file = open(path, O_RDONLY);
+    ssize_t length = file < 0 ? -1 : read(file, bytes, room);
+    if (length < 0 || close(file) != 0)
+        abort();
+    return (size_t)length;
+}
+
+static void write_bytes(const char *path, const uint8_t *bytes, size_t length)
+{
+    int file = open(path, O_WRONLY | O_CREAT | O_TRUNC, 0666);
+    if (file < 0 || write(file, bytes, length) != (ssize_t)length || close(file) != 0)
+        abort();
+}
+
+/* Whether a file has this text alone. */
+static int has_text(const char *path, const char *text)
+{
+    uint8_t bytes[64];
+    return read_file(path, bytes, sizeof bytes) == strlen(text) && memcmp(bytes, text, strlen(text)) == 0;
+}
+
+/* A store that version 1 has made: a session's record in one block. */
+static const uint8_t old_log[] = {
+    0, 0, 0, 0, 0, 0, 0, 0, 0, 0, 0, 0, 0, 0, 0, 9, 0x8d, 0xf2, 0x9f, 0x0f, 0x2b, 0x87, 0x1f, 0x0f,
+    0x31, 0xac, 0x0a, 0xa0, 0x0c, 0xcf, 0xf0, 0xe6, 0x2f, 0xdb, 0xa9, 0x1a, 0x89, 0x93, 0xeb, 0xaf,
+    0, 0, 0, 0, 0, 0, 0, 1, 1,
+};
+
+static void go_on_from_version_1(const char *folder)
+{
+    struct jakumshe_store store = JAKUMSHE_CLOSED_STORE;
+    uint64_t sum = 0;
+    EXPECT(0, mkdir(below(folder, "old"), 0777));
+    write_file(below(folder, "old/store"), "jakumshe store 1\n");
+    write_bytes(below(folder, "old/log"), old_log, sizeof old_log);
+    EXPECT(JAKUMSHE_DONE, jakumshe_store_open(&store, below(folder, "old")));
+    EXPECT(1, has_text(below(folder, "old/store"), "jakumshe store 1\n"));
+    EXPECT(JAKUMSHE_DONE, count_up(&store, &sum));
+    EXPECT(JAKUMSHE_DONE, jakumshe_store_close(&store));
+    EXPECT(1, has_text(below(folder, "old/store"), "jakumshe store 2 0000000000000000\n"));
+    EXPECT(JAKUMSHE_DONE, jakumshe_store_open(&store, below(folder, "old")));
+    EXPECT(JAKUMSHE_DONE, count_up(&store, &sum));
+    EXPECT(2, (int)sum);
+    EXPECT(JAKUMSHE_DONE, jakumshe_store_close(&store));
+    write_bytes(below(folder, "old/log"), old_log, 0);
+    EXPECT(JAKUMSHE_DAMAGED, jakumshe_store_open(&store, below(folder, "old")));
+    write_file(below(folder, "old/store"), "jakumshe store 1\n");
+    EXPECT(JAKUMSHE_DONE, jakumshe_store_open(&store, below(folder, "old")));
+    EXPECT(JAKUMSHE_DONE, jakumshe_store_close(&store));
+}
+
+/* A block of another store, and the file `store` of a store that has had a block and of one that has had none. */
+static void tell_stores_apart(const char *folder)
+{
+    struct jakumshe_store store = JAKUMSHE_CLOSED_STORE;
+    uint64_t sum = 0;
+    uint8_t log[4096];
+    EXPECT(JAKUMSHE_DONE, jakumshe_store_open(&store, below(folder, "one")));
+    EXPECT(JAKUMSHE_DONE, count_up(&store, &sum));
+    EXPECT(JAKUMSHE_DONE, jakumshe_store_close(&store));
+    size_t length = read_file(below(folder, "one/log"), log, sizeof log);
+    EXPECT(JAKUMSHE_DONE, jakumshe_store_open(&store, below(folder, "two")));
+    EXPECT(JAKUMSHE_DONE, jakumshe_store_close(&store));
+    EXPECT(33, (int)read_file(below(folder, "two/store"), log + length, sizeof log - length));
+    write_bytes(below(folder, "two/log"), log, length);
+    EXPECT(JAKUMSHE_DAMAGED, jakumshe_store_open(&store, below(folder, "two")));
+    write_bytes(below(folder, "two/log"), log, 0);
+    EXPECT(JAKUMSHE_DONE, jakumshe_store_open(&store, below(folder, "two")));
+    EXPECT(JAKUMSHE_DONE, count_up(&store, &sum));
+    EXPECT(JAKUMSHE_DONE, jakumshe_store_close(&store));
+    EXPECT(34, (int)read_file(below(folder, "two/store"), log, sizeof log));
+    EXPECT(0, truncate(below(folder, "two/store"), 33));
+    EXPECT(JAKUMSHE_DONE, jakumshe_store_open(&store, below(folder, "two")));
+    EXPECT(JAKUMSHE_DONE, jakumshe_store_close(&store));
+    EXPECT(34, (int)read_file(below(folder, "two/store"), log, sizeof log));
+    EXPECT(0, unlink(below(folder, "two/log")));
+    EXPECT(0, mkfifo(below(folder, "two/log"), 0666));
+    EXPECT(JAKUMSHE_NOT_A_STORE, jakumshe_store_open(&store, below(folder, "two")));
+    EXPECT(0, unlink(below(folder, "two/store")));
+    EXPECT(0, mkfifo(below(folder, "two/store"), 0666));
+    EXPECT(JAKUMSHE_NOT_A_STORE, jakumshe_store_open(&store, below(folder, "two")));
+}
+
+/* Each byte of a log's file is changed in turn, and the file is cut short to each length. Where it has no whole block
+ * left it is refused, since the store has had one. */
 static void damage(const char *folder)
 {
     struct jakumshe_store store = JAKUMSHE_CLOSED_STORE;
@@ -152,11 +242,16 @@ static void damage(const char *folder)
         if (pwrite(log, &byte, 1, place) != 1)
             abort();
     }
+    uint8_t head[32];
+    if (pread(log, head, sizeof head, 0) != sizeof head)
+        abort();
+    off_t first = 32 + (off_t)jakumshe_number(head + 8);
     for (off_t length = found.st_size; length >= 0; length--) {
         if (ftruncate(log, length) != 0)
             abort();
-        EXPECT(JAKUMSHE_DONE, jakumshe_store_open(&store, below(folder, "damaged")));
-        EXPECT(JAKUMSHE_DONE, jakumshe_store_close(&store));
+        EXPECT(length < first ? JAKUMSHE_DAMAGED : JAKUMSHE_DONE, jakumshe_store_open(&store, below(folder, "damaged")));
+        if (length >= first)
+            EXPECT(JAKUMSHE_DONE, jakumshe_store_close(&store));
     }
     close(log);
 }
@@ -166,6 +261,8 @@ static int faces(const char *folder)
     refuse_calls(folder);
     refuse_folders(folder);
     fail_to_write(folder);
+    go_on_from_version_1(folder);
+    tell_stores_apart(folder);
     damage(folder);
     printf("%d right, %d wrong\n", right, wrong);
     return wrong == 0 ? EXIT_SUCCESS : EXIT_FAILURE;

@@ -5,16 +5,20 @@ use Rattle.record_key.specs.declared.refusal.Refusal.{Refusal}
 use Rattle.node_laws.specs.declared.event.Event.{Event}
 use Rattle.node_laws.specs.declared.event.Out.{Out}
 use Rattle.node_laws.specs.declared.event.Out.TheVariants as out
+use Rattle.node_laws.specs.Forgetting.{without_messages}
 use Rattle.node_laws.specs.Node.{NodeView}
 use Rattle.node_laws.specs.Rounds.{Settles, IsDone}
 use Rattle.node_laws.specs.Stepping.{IsStep}
 use Rattle.jakumshe.specs.Calls.{ComesToRest, StopsSettling, IsStepped, IsTold, Fails}
 
-pub rests : (old new : NodeView) (before told : List Out) (r : Result Bool Refusal) (b : Bool)
-    → Settles old None before told r new → before ≡ [] → r ≡ Ok b → b ≡ true → ComesToRest old told new
-rests old new before told r b settles none is true_too = record {
-  settles = subst (λ (q : Result Bool Refusal). Settles old None [] told q new) (is ∙ ap Ok true_too)
-      (subst (λ (os : List Out). Settles old None os told r new) none settles);
+pub rests : (old settled new : NodeView) (before told : List Out) (r : Result Bool Refusal) (b : Bool)
+    → Settles old None before told r settled → before ≡ [] → r ≡ Ok b → b ≡ true → new ≡ without_messages settled
+    → ComesToRest old told new
+rests old settled new before told r b settles none is true_too left = record {
+  settled = settled;
+  settles = subst (λ (q : Result Bool Refusal). Settles old None [] told q settled) (is ∙ ap Ok true_too)
+      (subst (λ (os : List Out). Settles old None os told r settled) none settles);
+  left = left;
 }
 
 pub stops : (old new : NodeView) (before told : List Out) (r : Result Bool Refusal) (why : Refusal)

@@ -11,6 +11,7 @@ use Rattle.node_laws.specs.declared.event.Event.{Event}
 use Rattle.node_laws.specs.declared.event.Event.TheVariants as event
 use Rattle.node_laws.specs.declared.event.Out.{Out}
 use Rattle.node_laws.specs.declared.event.Out.TheVariants as out
+use Rattle.node_laws.specs.Forgetting.{without_messages}
 use Rattle.node_laws.specs.Node.{NodeView, fresh_node}
 use Rattle.node_laws.specs.Rounds.{Settles, IsDone}
 use Rattle.node_laws.specs.Stepping.{IsStep}
@@ -18,9 +19,11 @@ use Rattle.jakumshe.specs.declared.fault.Fault.{Fault}
 use Rattle.jakumshe.specs.Statuses.{EndsWithStatus}
 use Rattle.jakumshe.specs.declared.fault.Fault.TheVariants.{Refused, Exists, NoRecord, NotNumber, Untold}
 
--- the node settles until nothing is left to do, and tells clients this
+-- the node settles until nothing is left to do, and tells clients this; then every message is let go
 pub record ComesToRest (old : NodeView) (told : List Out) (new : NodeView) : Type 0 where
-  pub settles : Settles old None [] told (Ok true) new
+  pub settled : NodeView
+  pub settles : Settles old None [] told (Ok true) settled
+  pub left : new ≡ without_messages settled
 
 -- it begins to, and this stops it
 pub record StopsSettling (old : NodeView) (r : Refusal) (new : NodeView) : Type 0 where

@@ -1,5 +1,5 @@
 -- A node that is opened on a log, and the bytes of its log.
-use Rattle.std.specs.Prelude.{◌≡◌, ◌⊎◌, ℕ, List, ◌++◌, length, take, drop}
+use Rattle.std.specs.Prelude.{◌≡◌, ◌⊎◌, ℕ, List, [], ◌++◌, Result, Ok, Err, length, take, drop}
 use Rattle.stable.specs.Usage.{Usage}
 use Rattle.framed_log.specs.Beginning.{beginning}
 use Rattle.logical_log.specs.Spelled.{spelled}
@@ -14,7 +14,7 @@ use Rattle.node_store.specs.Opening.{IsRefusedFor}
 use Rattle.record_key.specs.declared.refusal.Refusal.{Refusal}
 use Rattle.jakumshe.specs.declared.fault.Fault.{Fault}
 use Rattle.jakumshe.specs.declared.fault.Fault.TheVariants.{Refused}
-use Rattle.jakumshe.specs.Calls.{ComesToRest, StopsSettling}
+use Rattle.world.specs.BringingUp.{BringsUp}
 use Rattle.jakumshe.specs.Statuses.{fault_of}
 
 -- the bytes of the log that are stable
@@ -31,20 +31,23 @@ pub record IsMadeOn (bytes : List ℕ) (w : NodeView) : Type 0 where
   pub joins : w ≡ joined w.tc (fresh_dc tree pages)
   pub stands : NodeStandsFor w (machine_read w.tc.log)
 
--- one that has settled since, and how many bytes its log had before
+-- it comes to rest, or is stopped, whatever that tells
+abbrev pub IsBroughtUp : NodeView → Result (Unit {0}) Refusal → NodeView → Type 0
+IsBroughtUp old result new = (told : List Out) × BringsUp old [] told result new
+
+-- one that has come to rest since, and how many bytes its log had before
 pub record IsOpenedOn (bytes : List ℕ) (kept : ℕ) (new : NodeView) : Type 0 where
   pub made : NodeView
   pub is_made : IsMadeOn bytes made
   pub counted : kept ≡ length (stable_bytes made)
-  pub told : List Out
-  pub rests : ComesToRest made told new
+  pub rests : IsBroughtUp made (Ok tt) new
 
 -- one that couldn't
 pub record IsStoppedOn (bytes : List ℕ) (r : Refusal) : Type 0 where
   pub made : NodeView
   pub is_made : IsMadeOn bytes made
   pub new : NodeView
-  pub stops : StopsSettling made r new
+  pub stops : IsBroughtUp made (Err r) new
 
 -- why none is opened on these bytes
 abbrev pub NotOpened : List ℕ → Fault → Type 0

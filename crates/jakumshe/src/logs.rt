@@ -1,5 +1,6 @@
 //! The functions by which C keeps a node's log in a file, as c/jakumshe_store.c does.
 ghost use Rattle.std.specs.Prelude.{◌≡◌, ◌≢◌, ◌≤◌, length, pos, false, None, IsSome, IsSomeAnd, IfErr};
+ghost use Rattle.log_blocks.specs.Blocks.{sum_of};
 ghost use Rattle.jakumshe.specs.Calls.{EndsSo};
 ghost use Rattle.jakumshe.specs.Holding.{OnNode};
 ghost use Rattle.jakumshe.specs.Logs.{IsOpenedOn, NotOpened, Copies, stable_bytes};
@@ -12,18 +13,27 @@ use log_blocks::{head, unpack};
 use record_key::Refusal;
 use std::alloc::Global;
 
-/// Makes of the bytes of a log's file those of the log, which take the place of the first ones: how many these are, and
-/// where the last whole block ended. Refused Damaged.
+/// Makes of the bytes of the file of a store's log those of the log, which take the place of the first ones: how many
+/// these are, where the last whole block ended, and the checksum of all up to there. The store's number is 0 where it
+/// began as version 1. Refused Damaged.
 #[unsafe(no_mangle)]
-pub extern "C" fn jakumshe_raw_unpack(file: &mut [u8], len: &mut usize, end: &mut usize) -> i32
+pub extern "C" fn jakumshe_raw_unpack(
+    file: &mut [u8],
+    store: u64,
+    len: &mut usize,
+    end: &mut usize,
+    sum: &mut u64,
+) -> i32
     ensures len { result ≡ pos 0 → len.new ≤ end.new }
     ensures end { result ≡ pos 0 → end.new ≤ length file.new }
-    ensures refused { result ≢ pos 0 → (result ≡ pos 41) × (len.new ≡ len.old) × (end.new ≡ end.old) }
+    ensures refused { result ≢ pos 0
+        → (result ≡ pos 41) × (len.new ≡ len.old) × (end.new ≡ end.old) × (sum.new ≡ sum.old) }
 {
-    match unpack(file) {
+    match unpack(file, store) {
         Ok(unpacked) => {
             *len = unpacked.len;
             *end = unpacked.end;
+            *sum = unpacked.sum;
             DONE
         }
         Err(_) => Fault::Damaged.status(),
@@ -97,9 +107,13 @@ pub extern "C" fn jakumshe_raw_log(
     }
 }
 
-/// Gives the head of a block of these bytes, which goes to a place of the file, and puts them behind the first `start`
-/// bytes of the log.
+/// Gives the head of a block of these bytes, which goes behind all that has the checksum `sum` and puts them behind the
+/// first `start` bytes of the log; and makes of `sum` the checksum of all up to the block's end.
 #[unsafe(no_mangle)]
-pub extern "C" fn jakumshe_raw_head(place: u64, start: u64, bytes: &[u8], room: &mut HeadBytes) {
-    room.put(head(place, start, bytes));
+pub extern "C" fn jakumshe_raw_head(sum: &mut u64, start: u64, bytes: &[u8], room: &mut HeadBytes)
+    ensures { sum.new ≡ sum_of sum.old start bytes.now }
+{
+    let (head, after) = head(*sum, start, bytes);
+    room.put(head);
+    *sum = after;
 }

@@ -5,7 +5,7 @@ ghost use Rattle.node_laws.specs.declared.event.Event.TheVariants as event;
 ghost use Rattle.node_laws.specs.Rounds.{IsDone};
 ghost use Rattle.jakumshe.specs.declared.fault.Fault.TheVariants.{Refused};
 ghost use Rattle.jakumshe.specs.Calls.{ComesToRest, StopsSettling, IsStepped, IsTold, IsNew, NotNew, RefusesEvent, Fails, Makes, Tells, Operates, Reads, begins, saves, finds, goes_back, rolls_back, commits, end_of};
-ghost use Rattle.jakumshe.specs.Logs.{IsMadeOn, IsOpenedOn, NotOpened, Copies, stable_bytes};
+ghost use Rattle.jakumshe.specs.Logs.{IsMadeOn, IsOpenedOn, IsBroughtUp, NotOpened, Copies, stable_bytes};
 ghost use Rattle.jakumshe.specs.Records.{IsPageOfRows};
 ghost use Rattle.node_store.specs.Opening.{IsRefusedFor};
 
@@ -16,7 +16,7 @@ use node_store::{Cause, open};
 use record_key::{Key, Op, Refusal, Value};
 use stable::{LogDevice, MemLog, MemPages};
 use std::alloc::Global;
-use world::{Event, Out, World, settle};
+use world::{Event, Out, World, bring_up, settle};
 
 #[derive(Drop)]
 pub struct Node {
@@ -61,8 +61,8 @@ impl Node {
             Ok(bytes) => bytes.len(),
             Err(_) => unreachable!(),
         };
-        match node.settled() {
-            Ok(_) => Ok((node, kept)),
+        match node.bring_up() {
+            Ok(()) => Ok((node, kept)),
             Err(refusal) => Err(Fault::Refused(refusal)),
         }
     }
@@ -249,7 +249,14 @@ impl Node {
         }
     }
 
-    /// All that the node tells until it is settled.
+    /// Brings the node to rest after an opening. What that tells is of no client that is there.
+    fn bring_up(&mut self) -> Result<(), Refusal>
+        ensures { IsBroughtUp self.old.world result self.new.world }
+    {
+        bring_up(&mut self.world, &mut Vec::new(self.alloc))
+    }
+
+    /// All that the node tells until it is settled. Then every message is let go: none is delivered twice.
     fn settled(&mut self) -> Result<Vec<Out>, Refusal>
         ensures rests { IfOk result (λ told. ComesToRest self.old.world told.items self.new.world) }
         ensures stops { IfErr result (λ refusal. StopsSettling self.old.world refusal self.new.world) }
@@ -257,7 +264,10 @@ impl Node {
     {
         let mut told = Vec::new(self.alloc);
         match settle(&mut self.world, None, &mut told) {
-            Ok(true) => Ok(told),
+            Ok(true) => {
+                self.world.forget();
+                Ok(told)
+            }
             // As many rounds as it takes are allowed.
             Ok(false) => unreachable!(),
             Err(refusal) => Err(refusal),
