@@ -219,7 +219,7 @@ draw_taken : (words : List Text) → level_fault draw_shape [] nothing_held word
     → MayAskFor (Some (rows_at draw_shape words))
 draw_taken words e =
     let given = level_may_have_value last_rule draw_shape [] words false [] has_last e in
-    inr (inr (inr (refl, may_name (codes "last") _ given)))
+    inr (inr (inr (inl (refl, may_name (codes "last") _ given))))
 
 is_help : (name : Text) (more : Bool) → more ≡ false → (bytes_eq (codes "help") name || more) ≡ true
     → bytes_eq name (codes "help") ≡ false → ⊥
@@ -233,27 +233,30 @@ is_help name false none e apart = go (bytes_eq (codes "help") name) refl e
         let P : Text → Type 0 = λ v. bytes_eq v (codes "help") ≡ false in
         absurd (cc (subst P (sym same) apart))
 
-abbrev chosen : Bool → Bool → Bool → Bool → Bool → Option Shape
-chosen r q x d h = cond r (Some (shape_in 0 line.subs)) (cond q (Some pool_shape)
-    (cond x (Some explain_shape) (cond d (Some draw_shape) (cond h (Some (shape_in 4 line.subs)) None))))
+abbrev chosen : Bool → Bool → Bool → Bool → Bool → Bool → Option Shape
+chosen r q x d c h = cond r (Some (shape_in 0 line.subs)) (cond q (Some pool_shape)
+    (cond x (Some explain_shape) (cond d (Some draw_shape)
+    (cond c (Some (shape_in 4 line.subs)) (cond h (Some (shape_in 5 line.subs)) None)))))
 
 stop_taken : (stop : Option (Text × List Text)) → NoHelp stop → entered_fault line stop ≡ []
     → is_some (entered line stop) ≡ true → MayAskFor (entered line stop)
 stop_taken None apart e some = absurd (cc some)
 stop_taken (Some p) apart e some =
     go (answers_to p.0 (codes "run", [])) (answers_to p.0 (codes "pool", [])) (answers_to p.0 (codes "explain", []))
-    (answers_to p.0 (codes "draw", [])) (answers_to p.0 (codes "help", [])) refl e some
+    (answers_to p.0 (codes "draw", [])) (answers_to p.0 (codes "compact", [])) (answers_to p.0 (codes "help", [])) refl
+    e some
   where
-    go : (r q x d h : Bool) → answers_to p.0 (codes "help", []) ≡ h
-        → option_map_or (λ s. level_fault s [] nothing_held p.1 false []) (chosen r q x d h) [] ≡ []
-        → is_some (option_map (λ s. rows_at s p.1) (chosen r q x d h)) ≡ true
-        → MayAskFor (option_map (λ s. rows_at s p.1) (chosen r q x d h))
-    go true q x d h asks e some = inl refl
-    go false true x d h asks e some = pool_taken p.1 e
-    go false false true d h asks e some = explain_taken p.1 e
-    go false false false true h asks e some = draw_taken p.1 e
-    go false false false false true asks e some = absurd (is_help p.0 false refl asks apart)
-    go false false false false false asks e some = absurd (cc some)
+    go : (r q x d c h : Bool) → answers_to p.0 (codes "help", []) ≡ h
+        → option_map_or (λ s. level_fault s [] nothing_held p.1 false []) (chosen r q x d c h) [] ≡ []
+        → is_some (option_map (λ s. rows_at s p.1) (chosen r q x d c h)) ≡ true
+        → MayAskFor (option_map (λ s. rows_at s p.1) (chosen r q x d c h))
+    go true q x d c h asks e some = inl refl
+    go false true x d c h asks e some = pool_taken p.1 e
+    go false false true d c h asks e some = explain_taken p.1 e
+    go false false false true c h asks e some = draw_taken p.1 e
+    go false false false false true h asks e some = inr (inr (inr (inr refl)))
+    go false false false false false true asks e some = absurd (is_help p.0 false refl asks apart)
+    go false false false false false false asks e some = absurd (cc some)
 
 -- words without a fault name a subcommand that is taken
 pub words_taken : (words : List Text) → fault_of command_line words ≡ [] → MayAskFor (subcommand_of command_line words)

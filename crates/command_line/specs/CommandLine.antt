@@ -28,7 +28,7 @@ sessions = counting (codes "sessions") 8 (codes "4")
 abbrev pub rounds : Rule
 rounds = counting (codes "rounds") 99 (codes "3")
 
--- a flag_option
+-- an option that is there or not
 abbrev pub flag_option : Text → Rule
 flag_option name = record (new_rule name) { long = Some name; action = Some SetTrue }
 
@@ -48,9 +48,17 @@ continuing = flag_option (codes "continue")
 abbrev pub storing : Rule
 storing = naming (codes "store")
 
+-- nothing is written to that
+abbrev pub reading : Rule
+reading = flag_option (codes "read-only")
+
 -- to run a script
 abbrev pub run : App
-run = with_rule (with_rule (new_app (codes "run")) continuing) storing
+run = with_rule (with_rule (with_rule (new_app (codes "run")) continuing) storing) reading
+
+-- to write the log of a store anew
+abbrev pub compact : App
+compact = with_rule (new_app (codes "compact")) storing
 
 -- to let clients play on threads
 abbrev pub pool : App
@@ -80,14 +88,15 @@ last = numbering (codes "last")
 abbrev pub draw : App
 draw = with_rule (new_app (codes "draw")) last
 
--- the program and all that it may be told: `run`, `pool`, `explain` or `draw`
+-- the program and all that it may be told: `run`, `pool`, `explain`, `draw` or `compact`
 abbrev pub command_line : App
 command_line = with_subcommand
-    (with_subcommand (with_subcommand (with_subcommand program run.top) pool.top) explain.top) draw.top
+    (with_subcommand (with_subcommand (with_subcommand (with_subcommand program run.top) pool.top) explain.top) draw.top)
+    compact.top
 
 -- what it may be told to do
 abbrev pub subcommands : List Shape
-subcommands = run.top ∷ pool.top ∷ explain.top ∷ draw.top ∷ []
+subcommands = run.top ∷ pool.top ∷ explain.top ∷ draw.top ∷ compact.top ∷ []
 
 -- it hands no argument down to subcommands
 abbrev pub IsLocal : Command → Type 0

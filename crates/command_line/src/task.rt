@@ -7,7 +7,7 @@ ghost use Rattle.clap.specs.Matches.{found_of};
 ghost use Rattle.clap.specs.Simple.{app_of, shape_of, subcommand_of, subcommand_rows_of};
 ghost use Rattle.clap.specs.Walk.{rows_of, rule_of};
 ghost use Rattle.command_line.specs.Asked.{AsksFor, HasClient, IsGivenCount, IsGivenNumber, MayAskFor, MayCount, NamesCount};
-ghost use Rattle.command_line.specs.CommandLine.{IsLocal, command_line, counting, draw, explain, flag_option, naming, numbering, pool, run, subcommands};
+ghost use Rattle.command_line.specs.CommandLine.{IsLocal, command_line, compact, counting, draw, explain, flag_option, naming, numbering, pool, run, subcommands};
 
 use clap::builder::ValueParser;
 use clap::{Arg, ArgAction, ArgMatches, Command, Error};
@@ -18,9 +18,15 @@ use std::convert::AsStr;
 #[derive(Debug, Clone, Copy, PartialEq, Eq)]
 pub enum Task<'a> {
     /// A script is read from standard input and run, also on behind a line in which memory or a device failed where it
-    /// continues. The node is that of the store in this folder where there is one, else a new one in memory.
+    /// continues. The node is that of the store in this folder where there is one, else a new one in memory; where it is
+    /// to be read only, nothing is written to the store.
     Run {
         continues: bool,
+        store: Option<&'a str>,
+        reads_only: bool,
+    },
+    /// The log of the store in this folder is written anew, with just the records that stand.
+    Compact {
         store: Option<&'a str>,
     },
     /// So many clients, each with a session of its own, play so many rounds on threads.
@@ -63,6 +69,8 @@ A script is lines; empty lines and lines that begin with # are skipped.
   tell          tells the data component how much of the log is stable
   req N         delivers the request numbered N
   rep N         delivers the reply numbered N
+  forget        lets every message go: those can't be delivered any more, and the next
+                request and the next reply are numbered 1
   split K       splits the leaf that has the key K
   merge K       joins the leaf that has the key K with the leaf after it
   tend          splits one leaf that is large, or joins two that are small
@@ -123,6 +131,16 @@ const CONTINUING: &str = "Goes on behind a line in which memory or a device fail
 
 const STORING: &str = "Keeps the log in this folder, and goes on where the last run on it ended";
 
+const READING: &str =
+    "Opens the store without a lock and writes nothing to it: what the script does is lost";
+
+const COMPACTED: &str = "\
+The store's log then has the records that stand, and nothing of how they came about. Whoever
+was left open is undone first. No other program may have the store open.
+
+Exit status: 0; 2 for a command line outside the grammar, and for a store that can't be
+opened; 3 where memory or a device failed.";
+
 /// The greatest number of a line or of events that may be asked for.
 const MOST_NUMBER: u64 = (1 << 48) - 1;
 
@@ -161,10 +179,16 @@ fn task_of<'a>(matches: &ArgMatches<'a>) -> Task<'a>
             last: number_if(asked, "last"),
         };
     }
+    if let Some(asked) = matches.subcommand_matches("compact") {
+        return Task::Compact {
+            store: asked.get_str("store"),
+        };
+    }
     match matches.subcommand_matches("run") {
         Some(asked) => Task::Run {
             continues: asked.get_flag("continue"),
             store: asked.get_str("store"),
+            reads_only: asked.get_flag("read-only"),
         },
         None => unreachable!(),
     }
@@ -210,11 +234,12 @@ fn subcommands<'a>(alloc: Global) -> Result<Vec<Command<'a>>, AllocError>
     ensures local { IfOk result (λ commands. AllByRecursion IsLocal commands.items) }
     ensures shapes { IfOk result (λ commands. map shape_of commands.items ≡ subcommands) }
 {
-    let mut commands = Vec::with_capacity(alloc, 4)?;
+    let mut commands = Vec::with_capacity(alloc, 5)?;
     commands.push(run_command(alloc)?)?;
     commands.push(pool_command(alloc)?)?;
     commands.push(explain_command(alloc)?)?;
     commands.push(draw_command(alloc)?)?;
+    commands.push(compact_command(alloc)?)?;
     Ok(commands)
 }
 
@@ -227,7 +252,20 @@ fn run_command<'a>(alloc: Global) -> Result<Command<'a>, AllocError>
         .about("Reads a script from standard input and prints what its lines came to")
         .after_help(LINES)
         .arg(flag_option(alloc, "continue").help(CONTINUING))?
-        .arg(naming(alloc, "store", "FOLDER").help(STORING))
+        .arg(naming(alloc, "store", "FOLDER").help(STORING))?
+        .arg(flag_option(alloc, "read-only").help(READING))
+}
+
+// What writes a store's log anew.
+fn compact_command<'a>(alloc: Global) -> Result<Command<'a>, AllocError>
+    ensures local { IfOk result IsLocal }
+    ensures app { IfOk result (λ command. app_of command ≡ compact) }
+{
+    let store = naming(alloc, "store", "FOLDER").help("The folder of the store");
+    Command::new(alloc, "compact")
+        .about("Writes the log of a store anew, with just the records that stand")
+        .after_help(COMPACTED)
+        .arg(store)
 }
 
 // What lets clients play on threads.
@@ -266,7 +304,7 @@ fn draw_command<'a>(alloc: Global) -> Result<Command<'a>, AllocError>
         .arg(last)
 }
 
-// A flag_option.
+// An option that is there or not.
 fn flag_option<'a>(alloc: Global, name: &'a str) -> Arg<'a>
     ensures global { result.global ≡ false }
     ensures rule { rule_of result ≡ flag_option name.entry.now }

@@ -88,7 +88,7 @@ fn draw_lost<W: io::Write>(
 
 fn is_delivered(deliveries: &[Delivery], message: &Message, end: usize) -> bool {
     for delivery in deliveries {
-        let same = delivery.is_reply == message.is_reply && delivery.number == message.number;
+        let same = delivery.is_reply == message.is_reply && delivery.sent == message.sent;
         if same && delivery.step < end {
             return true;
         }

@@ -17,7 +17,7 @@ use Rattle.node_laws.proofs.Machine.Headline.{follows, fresh_stands_for}
 use Rattle.node_shell.specs.declared.line_result.LineResult.{LineResult}
 use Rattle.node_shell.specs.declared.line_result.LineResult.TheVariants as came
 use Rattle.node_shell.specs.Labels.{Bindings}
-use Rattle.node_shell.specs.Script.{Command, begins, writes, adds, gets, scans, calls, treats, steps, settles, tables, shows}
+use Rattle.node_shell.specs.Script.{Command, begins, writes, adds, gets, scans, calls, treats, steps, settles, tables, forgets, shows}
 use Rattle.node_shell.specs.Text.{ComesTo, StepsUnless, Runs, goes_on, fails, is_cut, done, lines_if, lines_unless, client_lines, run_lines, op_written, length_fault, keys_fault, event_called, leaf_event, IsLedRun, IsToldRun}
 
 -- whatever machine the node stood for, these lines lead from it to one that the node stands for then
@@ -90,6 +90,7 @@ line_leads (settles most) old labels (came.Settled outs end) new next h =
     settles_leads most old new outs.items end h.0
 line_leads (settles most) old labels _ new next h = absurd h.0
 line_leads tables old labels r new next h = stays old new h.1
+line_leads forgets old labels r new next h = λ m stands. (m, refl, subst (λ w. NodeStandsFor w m) (sym h.1) stands)
 line_leads (shows p) old labels r new next h = stays old new h.1
 
 -- lines one after another

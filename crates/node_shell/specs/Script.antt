@@ -48,6 +48,8 @@ pub data Command : Type 0 where
   settles : Option ℕ → Command
   -- the records are printed
   tables : Command
+  -- every message is let go
+  forgets : Command
   shows : Part → Command
 
 -- a line of one word
@@ -62,7 +64,8 @@ bare name =
     else (if bytes_eq name (codes "recover") then Some (steps event.Recover)
     else (if bytes_eq name (codes "table") then Some tables
     else (if bytes_eq name (codes "log") then Some (shows part.Log)
-    else (if bytes_eq name (codes "leaves") then Some (shows part.Leaves) else None)))))))))
+    else (if bytes_eq name (codes "leaves") then Some (shows part.Leaves)
+    else (if bytes_eq name (codes "forget") then Some forgets else None))))))))))
 
 -- the name of what happens to a label's transaction
 abbrev pub call_named : List ℕ → Option Call
@@ -268,6 +271,7 @@ meaning (line.Leaf c key) = treats c key.now
 meaning (line.Step e) = steps e
 meaning (line.Settle most) = settles most
 meaning line.Table = tables
+meaning line.Forget = forgets
 meaning (line.Show p) = shows p
 
 -- the parts of what is left, cut at this byte

@@ -1,5 +1,5 @@
 -- The text of a script: what its lines come to, and what is printed of that.
-use Rattle.std.specs.Prelude.{◌≡◌, ◌⊎◌, ℕ, Bool, true, false, ◌||◌, nat_lt, List, [], ◌∷◌, ◌++◌, Option, Some, None, Result, Ok, Err, length, ⊤, if◌then◌else◌}
+use Rattle.std.specs.Prelude.{◌≡◌, ◌⊎◌, ℕ, Bool, true, false, ◌||◌, nat_lt, List, [], ◌∷◌, ◌++◌, Option, Some, None, Result, Ok, Err, length, ⊤, if◌then◌else◌, codes}
 use Rattle.std.specs.Io.KnownBytes.{Appends}
 use Rattle.record_key.specs.declared.refusal.Refusal.{Refusal}
 use Rattle.record_key.specs.declared.refusal.Refusal.TheVariants as refusal
@@ -15,6 +15,7 @@ use Rattle.node_laws.specs.Node.{NodeView, fresh_node}
 use Rattle.node_laws.specs.Stepping.{IsStep, told_by_all}
 use Rattle.node_laws.specs.Simulation.{NodeStandsFor}
 use Rattle.node_laws.specs.Simulation as sim
+use Rattle.node_laws.specs.Forgetting.{without_messages}
 use Rattle.node_laws.specs.Rounds.{Settles}
 use Rattle.node_shell.specs.Labels.{Bindings, unbound, AreSameBindings, IsBound}
 use Rattle.node_shell.specs.declared.line.Kind.{Kind}
@@ -25,7 +26,7 @@ use Rattle.node_shell.specs.declared.line.LeafCall.{LeafCall}
 use Rattle.node_shell.specs.declared.line.LeafCall.TheVariants as leaf_call
 use Rattle.node_shell.specs.declared.line_result.LineResult.{LineResult}
 use Rattle.node_shell.specs.declared.line_result.LineResult.TheVariants as came
-use Rattle.node_shell.specs.Script.{Command, begins, writes, adds, gets, scans, calls, treats, steps, settles, tables, shows, lines_from, first_fault, commands_of, onto}
+use Rattle.node_shell.specs.Script.{Command, begins, writes, adds, gets, scans, calls, treats, steps, settles, tables, forgets, shows, lines_from, first_fault, commands_of, onto}
 use Rattle.node_shell.specs.Ending.{is_failure, settled_text}
 use Rattle.node_shell.specs.Stored.{table_text}
 use Rattle.node_shell.specs.View.{rows_shown, part_text}
@@ -140,6 +141,8 @@ ComesTo (treats c key) before old r after new = IsEvent (λ output. Treats c key
 ComesTo (steps e) before old r after new = IsEvent (λ output. IsStep before e output after) r × AreSameBindings old new
 ComesTo (settles most) before old r after new = IsSettling most before r after × AreSameBindings old new
 ComesTo tables before old r after new = IsTableShown before r × (after ≡ before) × AreSameBindings old new
+ComesTo forgets before old r after new =
+    (r ≡ came.Forgotten) × (after ≡ without_messages before) × AreSameBindings old new
 ComesTo (shows p) before old r after new = (r ≡ came.Shown p) × (after ≡ before) × AreSameBindings old new
 
 -- the client's call and the told lines of an event with its output; none, where the call never reached the node
@@ -174,6 +177,7 @@ abbrev pub result_text : LineResult → NodeView → List ℕ
 result_text (came.Event output) view = out_text output
 result_text (came.Settled outs end) view = settled_text outs.items end
 result_text (came.Table rows) view = table_text rows
+result_text came.Forgotten view = codes "forgotten\n"
 result_text (came.Shown p) view = part_text p view
 
 abbrev pub has_failed_so : Out → Bool

@@ -124,5 +124,7 @@ pub enum Line<'a> {
     Settle(Option<u64>),
     /// The records are printed.
     Table,
+    /// Every message is let go.
+    Forget,
     Show(Part),
 }

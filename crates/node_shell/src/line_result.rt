@@ -29,6 +29,8 @@ pub enum LineResult {
     },
     /// The records as they are.
     Table(RowList),
+    /// Every message was let go.
+    Forgotten,
     /// A part of the node is to be printed.
     Shown(Part),
 }
@@ -62,6 +64,7 @@ impl LineResult {
             LineResult::Event(out) => print_out(writer, out),
             LineResult::Settled { outs, end } => print_settled(writer, outs.as_slice(), end),
             LineResult::Table(rows) => print_table(writer, rows.as_slice()),
+            LineResult::Forgotten => print(writer, &[Piece::Text("forgotten\n")]),
             LineResult::Shown(part) => print_part(writer, *part, world),
         }
     }

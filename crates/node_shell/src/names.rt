@@ -32,6 +32,8 @@ pub fn bare<'a>(name: &[u8]) -> Option<Line<'a>>
         Some(Line::Show(Part::Log))
     } else if name == b"leaves".as_slice() {
         Some(Line::Show(Part::Leaves))
+    } else if name == b"forget".as_slice() {
+        Some(Line::Forget)
     } else {
         None
     }

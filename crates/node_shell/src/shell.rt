@@ -83,6 +83,10 @@ impl<D: CrashLog, P: CrashPages> Shell<D, P> {
             Line::Step(event) => LineResult::Event(self.world.step(event)),
             Line::Settle(most) => settled(self.alloc, &mut self.world, *most),
             Line::Table => self.table(),
+            Line::Forget => {
+                self.world.forget();
+                LineResult::Forgotten
+            }
             Line::Show(part) => LineResult::Shown(*part),
         }
     }

@@ -14,7 +14,7 @@ pub fn of_line(line: &Line<'_>, shell: &Shell) -> (Doing, u64) {
         Line::Call { label, call } => (of_call(*call), shell.bound(label)),
         Line::Leaf { .. } => (Doing::Leaf, 0),
         Line::Step(event) => of_event(event),
-        Line::Settle(_) | Line::Table | Line::Show(_) => (Doing::Show, 0),
+        Line::Settle(_) | Line::Table | Line::Forget | Line::Show(_) => (Doing::Show, 0),
     }
 }
 

@@ -13,7 +13,7 @@ pub enum About {
     RedoEnd,
 }
 
-/// A message. Requests and replies are numbered apart, each from 1.
+/// A message. Requests and replies are numbered apart, each from 1, and anew once all were let go.
 #[derive(Clone, Copy)]
 pub struct Message {
     pub is_reply: bool,
@@ -23,6 +23,8 @@ pub struct Message {
     pub session: u64,
     pub about: About,
     pub deliveries: u64,
+    /// It was let go: none of this number can be delivered any more, or another one has it.
+    pub is_gone: bool,
 }
 
 /// How a message arrived.

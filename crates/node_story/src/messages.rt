@@ -42,15 +42,30 @@ fn send(
         session: story.now.sessions,
         about,
         deliveries: 0,
+        is_gone: false,
     };
     story.messages.push(message)?;
     Ok(())
 }
 
+/// Every message is let go, and the next of each kind is number 1.
+pub fn forget(story: &mut Story<'_>) {
+    for message in story.messages.as_mut_slice() {
+        message.is_gone = true;
+    }
+    story.now.last_reply = 0;
+    story.now.last_request = 0;
+}
+
+/// Whether a message has this number.
+fn is_of(message: &Message, is_reply: bool, number: u64) -> bool {
+    !message.is_gone && message.is_reply == is_reply && message.number == number
+}
+
 /// The message of this number.
 pub fn message_of(messages: &[Message], is_reply: bool, number: u64) -> Option<Message> {
     for message in messages {
-        if message.is_reply == is_reply && message.number == number {
+        if is_of(message, is_reply, number) {
             return Some(*message);
         }
     }
@@ -106,7 +121,7 @@ fn fate_of(story: &Story<'_>, message: &Message, out: &Out) -> Fate {
 
 fn count(story: &mut Story<'_>, is_reply: bool, number: u64) {
     for message in story.messages.as_mut_slice() {
-        if message.is_reply == is_reply && message.number == number {
+        if is_of(message, is_reply, number) {
             message.deliveries = message.deliveries.saturating_add(1);
         }
     }

@@ -2,6 +2,7 @@
 use crate::about::of_line;
 use crate::ends::take_keys;
 use crate::happened::note;
+use crate::messages::forget;
 use crate::settled::{open_both, settle_line};
 use crate::step::{Step, is_failure};
 use crate::story::Story;
@@ -58,6 +59,10 @@ fn play_event<'a>(
             };
             note(story, step, label_in(text))?;
             Ok(failed)
+        }
+        LineResult::Forgotten => {
+            forget(story);
+            Ok(false)
         }
         _ => Ok(false),
     }

@@ -1,4 +1,4 @@
-//! Messages, in words: which haven't arrived.
+//! Messages, in words: which haven't arrived, and still may.
 use crate::text::Text;
 use node_story::{About, Message, Story};
 
@@ -6,7 +6,7 @@ use node_story::{About, Message, Story};
 pub fn tell_messages(text: &mut Text<'_, Vec<u8>>, story: &Story<'_>) {
     let mut separator = "  not delivered so far: ";
     for message in story.messages.as_slice() {
-        if message.deliveries == 0 {
+        if message.deliveries == 0 && !message.is_gone {
             text.say(separator);
             put_message(text, message);
             separator = ", ";

@@ -7,31 +7,42 @@
 
 ghost use Rattle.command_line.specs.Asked.{HasClient};
 
+mod stored;
+
 use clap::Error;
 use clap::error::ErrorKind;
 use command_line::{Task, choose};
-use file_devices::{FileLog, NoPages, StoreError, StoreFile, Tried, open_store};
 use node_pictures::draw;
-use node_shell::{DONE, FAILED, FAULT, Stopping, refusal_of, refuse, run, run_on};
-use node_store::{Cause, open};
+use node_shell::{DONE, FAILED, FAULT, Stopping, refusal_of, refuse, run};
 use node_texts::explain;
 use pool_shell::pool;
 use record_key::Refusal;
 use std::alloc::Global;
 use std::fs::{File, Files};
-use std::io::{BufWriter, LineWriter, Write};
+use std::io::{BufWriter, Write};
 use std::process::ExitCode;
 use std::sync::Wait;
 use std::thread::Threads;
 use std::{env, io};
-use world::World;
+use stored::{compact, finish, run_stored};
 
 fn main(rt: HostRuntime) -> ExitCode {
     let status = match arguments(&rt) {
         Ok(words) => start(rt, words.as_slice()),
-        Err(error) => refuse(&mut io::writer(&rt), refusal_of(&error), FAILED),
+        Err(error) => print_unread_words(&rt, &error),
     };
     ExitCode::from(status)
+}
+
+/// Prints why the command line isn't read: memory is refused, or a word of it is no text.
+fn print_unread_words<R: Print + Eprint>(rt: &R, error: &io::Error) -> u8 {
+    if refusal_of(error) == Refusal::NoMemory {
+        return refuse(&mut io::writer(rt), Refusal::NoMemory, FAILED);
+    }
+    match eprintln!(rt; "undo_shell: a word of the command line isn't UTF-8") {
+        Ok(()) => FAULT,
+        Err(_) => FAILED,
+    }
 }
 
 /// The command line, the program's name first.
@@ -50,71 +61,12 @@ where
             Task::Run {
                 continues,
                 store: Some(folder),
+                reads_only,
             },
-        ) => run_stored(&rt, continues, folder),
+        ) => run_stored(&rt, continues, reads_only, folder),
+        Ok(Task::Compact { store }) => compact(&rt, store),
         Ok(task) => perform(rt, rt.alloc(), task),
         Err(fault) => print_fault(&rt, &fault),
-    }
-}
-
-/// Runs a script on the store in this folder.
-fn run_stored<R>(rt: &R, continues: bool, folder: &str) -> u8
-where
-    R: Input + Print + Eprint + AllocGlobal + Files<File = File> + Copy,
-{
-    match open_store(rt, folder) {
-        Ok(log) => match open(
-            rt.alloc(),
-            log,
-            FileLog::volatile(rt.alloc()),
-            NoPages::new(),
-        ) {
-            Ok(world) => run_world(rt, continues, world),
-            Err(left) => print_unread(rt, folder, &left.cause),
-        },
-        Err(error) => print_unopened(rt, folder, &error),
-    }
-}
-
-/// Runs a script on a node that a store has. Each line of its text is written as soon as it ends: a client that reads of
-/// a commit has it whatever becomes of the process, and one that has it should learn so before the process is gone.
-fn run_world<R>(rt: &R, continues: bool, world: World<FileLog, NoPages>) -> u8
-where
-    R: Input + Print + AllocGlobal,
-{
-    let Ok(mut writer) = LineWriter::new(rt.alloc(), Stopping::new(io::writer(rt))) else {
-        return refuse(&mut io::writer(rt), Refusal::NoMemory, FAILED);
-    };
-    let status = run_on(rt.alloc(), world, continues, &mut rt.reader(), &mut writer);
-    finish(&mut writer, status)
-}
-
-/// Prints to standard error why a store isn't opened.
-fn print_unopened<R: Eprint>(rt: &R, folder: &str, error: &StoreError) -> u8 {
-    let status = match error {
-        StoreError::NoMemory => FAILED,
-        StoreError::Io {
-            tried: Tried::Write | Tried::Sync,
-            ..
-        } => FAILED,
-        _ => FAULT,
-    };
-    match eprintln!(rt; "undo_shell: {folder}: {error}") {
-        Ok(()) => status,
-        Err(_) => FAILED,
-    }
-}
-
-/// Prints to standard error why no node is made of a store's log.
-fn print_unread<R: Eprint>(rt: &R, folder: &str, cause: &Cause) -> u8 {
-    let status = match cause {
-        Cause::Refused(Refusal::NoMemory | Refusal::Device) => FAILED,
-        _ => FAULT,
-    };
-    let file = StoreFile::Log;
-    match eprintln!(rt; "undo_shell: {folder}: {file}: {cause}") {
-        Ok(()) => status,
-        Err(_) => FAILED,
     }
 }
 
@@ -133,16 +85,9 @@ where
         Task::Pool { sessions, rounds } => pool(rt, alloc, sessions, rounds, &mut writer),
         Task::Explain { at } => explain(alloc, at, &mut rt.reader(), &mut writer),
         Task::Draw { last } => draw(alloc, last, &mut rt.reader(), &mut writer),
+        Task::Compact { .. } => FAULT,
     };
     finish(&mut writer, status)
-}
-
-/// Writes what of a text isn't written yet.
-fn finish<W: Write>(writer: &mut W, status: u8) -> u8 {
-    match writer.flush() {
-        Ok(()) => status,
-        Err(_) => FAILED,
-    }
 }
 
 /// Prints why nothing is run: help to standard output, a fault's text to standard error.

@@ -1,7 +1,7 @@
 use Rattle.std.proofs.Common.{rules, ap₂, ◌≡◌, ◌∙◌}
 use Rattle.std.proofs.lemmas.Result.{IfOk-weaker}
 use Rattle.clap.specs.Simple.{app_of}
-use Rattle.command_line.specs.CommandLine.{program, subcommands}
+use Rattle.command_line.specs.CommandLine.{program}
 use Rattle.command_line.proofs.Adding.{added_all, with_all}
 use Rattle.command_line.proofs.task.command_line.Goals as goal
 

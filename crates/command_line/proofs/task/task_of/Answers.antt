@@ -9,29 +9,54 @@ use Rattle.command_line.specs.declared.task.Task.TheVariants as task
 use Rattle.command_line.specs.Asked.{AsksFor, IsGivenText, IsSet}
 use Rattle.command_line.proofs.task.task_of.Goals as goal
 
--- the words name `run` with these rows, in which the flag is set and the folder is named so
-asks_run : (s : Option (Text × List Row)) (rows : List Row) (set : Bool) (store : Option (Bor Text))
+-- the words name `run` with these rows, in which the flags are set and the folder is named so
+asks_run : (s : Option (Text × List Row)) (rows : List Row) (set reads_only : Bool) (store : Option (Bor Text))
     → option_map (λ p. p.0) s ≡ Some (codes "run") → option_map (λ p. p.1) s ≡ Some rows
-    → IsSet rows (codes "continue") set → IsGivenText rows (codes "store") store → AsksFor s (task.Run set store)
-asks_run None rows set store name same is named = absurd (cc name)
-asks_run (Some s) rows set store name same is named =
+    → IsSet rows (codes "continue") set → IsGivenText rows (codes "store") store
+    → IsSet rows (codes "read-only") reads_only → AsksFor s (task.Run set store reads_only)
+asks_run None rows set reads_only store name same is named reads = absurd (cc name)
+asks_run (Some s) rows set reads_only store name same is named reads =
     let own : s.0 ≡ codes "run" = cc name in
     let its : s.1 ≡ rows = cc same in (
       own,
       subst (λ (r : List Row). IsSet r (codes "continue") set) (sym its) is,
       subst (λ (r : List Row). IsGivenText r (codes "store") store) (sym its) named,
+      subst (λ (r : List Row). IsSet r (codes "read-only") reads_only) (sym its) reads,
     )
+
+-- the same of `compact`
+asks_compact : (s : Option (Text × List Row)) (rows : List Row) (store : Option (Bor Text))
+    → option_map (λ p. p.0) s ≡ Some (codes "compact") → option_map (λ p. p.1) s ≡ Some rows
+    → IsGivenText rows (codes "store") store → AsksFor s (task.Compact store)
+asks_compact None rows store name same named = absurd (cc name)
+asks_compact (Some s) rows store name same named =
+    let own : s.0 ≡ codes "compact" = cc name in
+    let its : s.1 ≡ rows = cc same in
+    (own, subst (λ (r : List Row). IsGivenText r (codes "store") store) (sym its) named)
+
+pub returns-in-Some-subcommand_matches-3-clause-asks : goal.returns-in-Some-subcommand_matches-3-clause-asks
+returns-in-Some-subcommand_matches-3-clause-asks c =
+    let found : Found = found_of c.in-Some-subcommand_matches-3.asked.now in
+    asks_compact (subcommand_rows_of c.args.matches.now) (rows_of found) c.get_str.result (search rules) (search rules)
+    (c.get_str.ensures ∙ first_value-rows found (codes "store"))
 
 pub returns-clause-asks : goal.returns-clause-asks
 returns-clause-asks c =
-    let found : Found = found_of c.in-Some-subcommand_matches-3.asked.now in
+    let found : Found = found_of c.in-Some-subcommand_matches-4.asked.now in
     let text : one_text found (codes "continue") ≡ one_of (codes "continue") (rows_of found) =
     one_text-rows found (codes "continue") in
-    asks_run (subcommand_rows_of c.args.matches.now) (rows_of found) c.get_flag.result c.get_str.result (search rules)
-    (search rules)
+    let reading : one_text found (codes "read-only") ≡ one_of (codes "read-only") (rows_of found) =
+    one_text-rows found (codes "read-only") in
+    asks_run (subcommand_rows_of c.args.matches.now) (rows_of found) c.get_flag.result c.get_flag-in-Some-subcommand_matches-4.result c.get_str-in-Some-subcommand_matches-4.result
+    (search rules) (search rules)
     (record {
       given = λ e. c.get_flag.ensures.value (text ∙ e);
       otherwise = λ e. c.get_flag.ensures.other (text ∙ e);
       absent = λ e. c.get_flag.ensures.none (text ∙ e);
     })
-    (c.get_str.ensures ∙ first_value-rows found (codes "store"))
+    (c.get_str-in-Some-subcommand_matches-4.ensures ∙ first_value-rows found (codes "store"))
+    (record {
+      given = λ e. c.get_flag-in-Some-subcommand_matches-4.ensures.value (reading ∙ e);
+      otherwise = λ e. c.get_flag-in-Some-subcommand_matches-4.ensures.other (reading ∙ e);
+      absent = λ e. c.get_flag-in-Some-subcommand_matches-4.ensures.none (reading ∙ e);
+    })
