@@ -20,6 +20,7 @@ use std::thread::Threads;
 use std::time::{Clock, Duration, Instant};
 use std::{io, thread};
 use worker_pool::{Engine, Naming, Opened, Session};
+use world::bring_up;
 
 /// How many threads serve the clients' requests.
 const WORKERS: usize = 4;
@@ -41,9 +42,10 @@ where
     let Ok(log) = open_store(&rt, folder) else {
         return Err(io::Error::from(io::ErrorKind::Other));
     };
-    let Ok(world) = open(alloc, log, FileLog::volatile(alloc), NoPages::new()) else {
+    let Ok(mut world) = open(alloc, log, FileLog::volatile(alloc), NoPages::new()) else {
         return Err(io::Error::from(io::ErrorKind::Other));
     };
+    done(bring_up(&mut world, &mut Vec::new(alloc)))?;
     let opened = done(Opened::over(alloc, world, usize::from(CLIENTS)))?;
     measured_in::<Brand, _, _, R>(rt, alloc, opened, crew)
 }

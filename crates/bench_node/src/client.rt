@@ -1,7 +1,7 @@
 //! One client of a node, and the messages for it.
 use record_key::{Key, Op, Refusal, Value};
 use std::alloc::Global;
-use world::{Event, Out, World, settle};
+use world::{Event, Out, World, bring_up, settle};
 
 /// How many rounds are settled at a time.
 const ROUNDS: u64 = 100;
@@ -107,11 +107,15 @@ impl Client {
         self.undo()
     }
 
+    /// Rolls back. Then no message is on its way, so all are let go.
     pub fn roll_back(&mut self) -> Result<(), Refusal> {
         self.step(&Event::Rollback { txn: self.txn })?;
-        self.undo()
+        self.undo()?;
+        self.world.forget();
+        Ok(())
     }
 
+    /// Commits. Then no message is on its way, so all are let go.
     pub fn commit(&mut self) -> Result<(), Refusal> {
         self.step(&Event::Commit { txn: self.txn })?;
         self.step(&Event::Force)?;
@@ -120,12 +124,18 @@ impl Client {
             self.deliver()?;
             self.tend_all()?;
         }
+        self.world.forget();
         Ok(())
     }
 
     /// The rows, in key order.
     pub fn rows(&self) -> Result<Vec<(Key, Value)>, Refusal> {
         self.world.rows()
+    }
+
+    /// How many leaves there are.
+    pub fn leaves(&self) -> Result<u64, Refusal> {
+        Ok(self.world.leaves()? as u64)
     }
 
     /// A leaf that is large is split, or two that are small are joined. Where operations are sent early that is left to
@@ -209,6 +219,12 @@ impl Client {
             }
         }
         Ok(())
+    }
+
+    /// The same after a crash: leaves that redo fills are split, and nothing is kept of what it takes.
+    pub fn bring_up(&mut self) -> Result<(), Refusal> {
+        self.outs.clear();
+        bring_up(&mut self.world, &mut self.outs)
     }
 
     /// Rounds until clients are served; then a transaction inserts, and is answered.

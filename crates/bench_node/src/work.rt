@@ -9,7 +9,8 @@ use std::alloc::Global;
 /// How many upserts the transaction has that a crash finds open.
 const LOSER: u64 = 1_000;
 
-/// After so many operations a low number is announced. It raises every leaf, and the keys make about so many.
+/// After so many operations at least a low number is announced, and after as many as there are leaves where these are
+/// more: it raises every leaf.
 const LOWERED: u64 = 4_000;
 
 /// A client with its draws.
@@ -21,6 +22,8 @@ pub struct Work {
     workload: Workload,
     operations: u64,
     waits: u64,
+    // The operation after which a low number is handed over next.
+    next: u64,
 }
 
 impl Work {
@@ -34,6 +37,7 @@ impl Work {
             workload,
             operations,
             waits: 0,
+            next: LOWERED,
         })
     }
 
@@ -104,7 +108,7 @@ impl Work {
             }
             Workload::Undo => {
                 self.client.crash_transactions()?;
-                self.client.settle()
+                self.client.bring_up()
             }
             Workload::Scans => self.scans(),
             Workload::HotAdds | Workload::HotUpdates => self.change_one(),
@@ -126,7 +130,7 @@ impl Work {
     /// Until a row is read that the open transaction had changed.
     fn reopen(&mut self) -> Result<(), Refusal> {
         self.client.crash()?;
-        self.client.settle()?;
+        self.client.bring_up()?;
         self.client.begin()?;
         self.read(0)?;
         self.client.commit()
@@ -152,8 +156,9 @@ impl Work {
             Workload::Rollbacks => self.client.roll_back()?,
             _ => self.client.commit()?,
         }
-        if count % LOWERED == 0 && self.workload.writes() {
+        if count >= self.next && self.workload.writes() {
             self.client.lower()?;
+            self.next = count + LOWERED.max(self.client.leaves()?);
         }
         Ok(())
     }

@@ -60,10 +60,11 @@ fn call(rt: &HostRuntime, world: &mut World, event: &Event) -> Result<Out, Refus
     Ok(out)
 }
 
-/// Plays rounds until none is left, and prints what clients are told.
+/// Plays rounds until none is left, and prints what clients are told. Then no message is on its way, and all are let go.
 fn settled(rt: &HostRuntime, world: &mut World) -> Result<(), Refusal> {
     let mut outs = Vec::new(rt.alloc());
     settle(world, None, &mut outs)?;
+    world.forget();
     for out in &outs {
         if is_told(out) {
             print(rt, "  told", out);

@@ -14,6 +14,7 @@ use std::marker::Brand;
 use std::sync::Wait;
 use std::thread::{JoinHandle, Threads, spawn};
 use worker_pool::{Engine, Gate, Naming, Opened, Session};
+use world::bring_up;
 
 /// A gate at which nobody looks on.
 #[derive(Drop)]
@@ -39,9 +40,11 @@ where
     let Ok(log) = open_store(&rt, folder) else {
         return Err(Refusal::Device);
     };
-    let Ok(world) = open(alloc, log, FileLog::volatile(alloc), NoPages::new()) else {
+    let Ok(mut world) = open(alloc, log, FileLog::volatile(alloc), NoPages::new()) else {
         return Err(Refusal::Device);
     };
+    // Before the engine is made, which would keep an entry of each round.
+    bring_up(&mut world, &mut Vec::new(alloc))?;
     let opened = Opened::over(alloc, world, 2)?;
     count::<Brand, R>(rt, opened)
 }

@@ -117,6 +117,14 @@ impl<J: Naming, D: CrashLog, P: CrashPages> DcDesk<J, D, P> {
         self.side.session()
     }
 
+    /// How many leaves the component has, 0 where it is down.
+    pub fn leaves(&self) -> usize {
+        match self.side.running() {
+            Ok(dc) => dc.leaves(),
+            Err(_) => 0,
+        }
+    }
+
     /// Serves the request of this number, if the journal holds it as sent, and enters that. The journal's lock is free
     /// while the request is served. Unsent where nothing that the desk has seen then sent it.
     pub fn serve<G: Gate, R: Wait>(

@@ -147,15 +147,6 @@ impl<J: Naming> Journal<J> {
         self.lines.is_run();
     }
 
-    /// The entry that sent the request of this number, if one did.
-    pub fn request(&self, number: u64) -> Result<Pushed<Entry>, Unsent>
-        ensures shown { IfOk result (λ token. Shown J.entries token) }
-        ensures sent { IfOk result (λ token. IsSentBy (requests self.now) number token.value.step.value.sent) }
-        ensures none { OnErr result (message_at (requests self.now) number ≡ None) }
-    {
-        self.lines.request(number)
-    }
-
     /// Looks for the reply of this number on behalf of the transaction component, which has seen all entries then.
     pub fn look_reply(
         &mut self,

@@ -8,11 +8,13 @@ use crate::after::After;
 use boxcar::Pushed;
 use crossbeam_channel::Sender;
 use node_laws::Event;
-use pool_journal::{Caller, Entry, Hall, Journal, KeptOut, Naming, News, OutForm, hold};
+use pool_journal::{Caller, DcDesk, Entry, Hall, Journal, KeptOut, Naming, News, OutForm, hold};
+use stable::{CrashLog, CrashPages};
 use std::sync::atomic::{AtomicU64, Ordering};
 use std::sync::{Condvar, Mutex, Wait};
 
-/// How far a low number is above the last one that was handed over, before it is handed over itself.
+/// How far a low number is at least above the last one that was handed over, before it is handed over itself; as far as
+/// there are leaves where these are more, so that raising them takes bounded time for each operation.
 const LOW_STEP: u64 = 4096;
 
 /// A request on its way to a worker: its number, and the session that waits for what comes of it, if one does.
@@ -31,6 +33,8 @@ pub struct Board<J: Naming> {
     restarts: AtomicU64,
     // The last low number that was handed over since the components were brought up.
     low: AtomicU64,
+    // How many leaves there were when the latest was split or joined.
+    leaves: AtomicU64,
 }
 
 // The low number that an entry announces, 0 where it announces none.
@@ -49,6 +53,7 @@ impl<J: Naming> Board<J> {
             news: Condvar::new(),
             restarts: AtomicU64::new(0),
             low: AtomicU64::new(0),
+            leaves: AtomicU64::new(0),
         }
     }
 
@@ -143,17 +148,29 @@ impl<J: Naming> Board<J> {
         self.hall.row().value(token).out()
     }
 
-    /// Hands a low number over to the workers, where it is far enough above the last one: to raise it is to visit each
-    /// leaf. One that isn't handed over is a message that is lost; the next one says more.
-    pub(crate) fn hand_over_low<R: Wait>(&self, rt: &R, work: &Sender<Job>, token: &Pushed<Entry>)
+    /// Whether a low number is so far above the last one that was due that it is handed over: to raise it is to visit
+    /// each leaf. One that isn't is a message that is lost; the next one says more.
+    pub(crate) fn is_low_due(&self, token: &Pushed<Entry>) -> bool
         requires shown { Shown J.entries token.now }
     {
         let low = low_in(self.hall.row().value(token));
-        if low.saturating_sub(self.low.load(Ordering::SeqCst)) < LOW_STEP {
-            return;
+        let step = LOW_STEP.max(self.leaves.load(Ordering::SeqCst));
+        let is_due = low.saturating_sub(self.low.load(Ordering::SeqCst)) >= step;
+        if is_due {
+            self.low.store(low, Ordering::SeqCst);
         }
-        self.low.store(low, Ordering::SeqCst);
-        self.hand_over(rt, work, token);
+        is_due
+    }
+
+    /// Keeps the leaves small. Where their count has changed it is noted.
+    pub(crate) fn tend<D: CrashLog, P: CrashPages, R: Wait>(
+        &self,
+        rt: &R,
+        desk: &mut DcDesk<J, D, P>,
+    ) {
+        if desk.tend(rt, self.hall.row(), &self.journal).is_some() {
+            self.leaves.store(desk.leaves() as u64, Ordering::SeqCst);
+        }
     }
 
     /// Hands a request over to the workers, if the entry is that of one that was sent; nobody waits for it.

@@ -117,16 +117,16 @@ impl<J: Naming, G, D: CrashLog, P: CrashPages> Shared<J, G, D, P> {
         }
     }
 
-    // The request is served, and its reply taken.
+    // The request is served, a leaf that redo has filled is split, and the reply is taken.
     fn serve_up<R: Wait>(&self, rt: &R, number: u64) -> Result<bool, Refusal>
         ensures refused { IfErr result IsOutage }
         ensures goes_on { IfOk result (λ left. left ≡ true) }
     {
         let board = &self.entrance.board;
-        let served = self
-            .dc
-            .lock(rt)
-            .serve(rt, board.hall.row(), &board.journal, &Nobody, number);
+        let mut desk = self.dc.lock(rt);
+        let served = desk.serve(rt, board.hall.row(), &board.journal, &Nobody, number);
+        board.tend(rt, &mut desk);
+        drop(desk);
         let Ok(token) = served else {
             return Ok(true);
         };

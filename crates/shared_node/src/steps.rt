@@ -102,9 +102,20 @@ impl<J: Naming, G: Gate, D: CrashLog, P: CrashPages> Shared<J, G, D, P> {
             self.tell(rt, work, &tell);
         }
         if let Some(low) = low {
-            self.entrance.board.hand_over_low(rt, work, &low);
+            self.announce(rt, work, &low);
         }
         After::Look
+    }
+
+    // A low number is handed over to the workers, where it is due.
+    fn announce<R: Wait>(&self, rt: &R, work: &Sender<Job>, token: &Pushed<Entry>)
+        requires shown { Shown J.entries token.now }
+    {
+        let board = &self.entrance.board;
+        if board.is_low_due(token) {
+            self.look_on(token);
+            board.hand_over(rt, work, token);
+        }
     }
 
     // The data component is told how much of the log is stable. Nobody waits for what comes of it.

@@ -33,17 +33,13 @@ impl<J: Naming, G: Gate, D: CrashLog, P: CrashPages> Shared<J, G, D, P> {
     // Serves one request, and hands its reply over.
     fn serve<R: Wait>(&self, rt: &R, job: Job) {
         let board = &self.entrance.board;
-        let found = hold(rt, &board.journal).request(job.number);
-        if let Ok(sent) = found {
-            self.look_on(&sent);
-        }
         if self.exchange(rt, hold(rt, &self.dc), job.number) == After::Look {
             board.stir(rt, job.session);
         }
         board.wake();
     }
 
-    /// The program sees the request that an entry sent, with no lock held.
+    /// The program sees the request that an entry sent, with no lock held: once, before that is served or handed over.
     pub(crate) fn look_on(&self, token: &Pushed<Entry>)
         requires { Shown J.entries token.now }
     {
@@ -79,7 +75,7 @@ impl<J: Naming, G: Gate, D: CrashLog, P: CrashPages> Shared<J, G, D, P> {
         let row = board.hall.row();
         let mut desk = desk;
         let served = desk.serve(rt, row, &board.journal, &self.gate, number);
-        desk.tend(rt, row, &board.journal);
+        board.tend(rt, &mut desk);
         served.ok()
     }
 

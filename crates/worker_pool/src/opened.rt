@@ -2,6 +2,7 @@
 ghost use Rattle.std.specs.Prelude.{◌≡◌, ◌<◌, ◌≤◌, [], All, length, map, vec_len, Err, IfOk, IfErr};
 ghost use Rattle.std.specs.List.{AllByRecursion};
 ghost use Rattle.marks.specs.Seen.{raiser, reader};
+ghost use Rattle.node_laws.specs.Forgetting.{without_messages};
 ghost use Rattle.node_laws.specs.Node.{fresh_node};
 ghost use Rattle.pool_journal.specs.Steps.{node_at};
 ghost use Rattle.worker_pool.specs.Opened.{ReadsMarks};
@@ -152,10 +153,9 @@ impl Opened<MemLog, MemPages> {
 }
 
 impl<D: CrashLog + Drop, P: CrashPages + Drop> Opened<D, P> {
-    /// For so many sessions, at most 8, over a node in which nothing was sent yet. Refused Full, NoMemory.
+    /// For so many sessions, at most 8, over a node, whose messages are let go. Refused Full, NoMemory.
     pub fn over(alloc: Global, world: World<D, P>, sessions: usize) -> Result<Opened<D, P>, Refusal>
-        requires quiet { (world.requests ≡ []) × (world.replies ≡ []) }
-        ensures start { IfOk result (λ opened. node_at opened.start ≡ world) }
+        ensures start { IfOk result (λ opened. node_at opened.start ≡ without_messages world) }
         ensures count { IfOk result (λ opened. length opened.sessions ≡ sessions) }
         ensures within { IfOk result (λ opened. sessions ≤ 8) }
         ensures full { 8 < sessions → result ≡ Err Refusal.Full }
@@ -170,10 +170,9 @@ impl<D: CrashLog + Drop, P: CrashPages + Drop> Opened<D, P> {
 
     /// Over the node, with these seats.
     fn of(alloc: Global, world: World<D, P>, seats: Seats) -> Result<Opened<D, P>, AllocError>
-        requires quiet { (world.requests ≡ []) × (world.replies ≡ []) }
         requires raises { seats.seat ≡ raiser seats.marks 0 0 }
         requires reads { AllByRecursion (ReadsMarks seats.marks) seats.chairs.items }
-        ensures start { IfOk result (λ opened. node_at opened.start ≡ world) }
+        ensures start { IfOk result (λ opened. node_at opened.start ≡ without_messages world) }
         ensures count { IfOk result (λ opened. length opened.sessions ≡ length seats.chairs.items) }
     {
         let (transactions, data) = world.parted();
