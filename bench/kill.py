@@ -6,13 +6,15 @@ doesn't live to end: it is killed by SIGKILL after a random time, or once it has
 printed is compared with a plain model (store_model.py): each answer, row and table, and after the next opening that
 every commit that was told is there, that nothing is there of a transaction that hasn't committed, and that the node
 settles. Each twentieth run begins a new store, and half of these are killed while they make it. In each fourth run the
-log's file can't grow beyond some size, and forces fail. At times a second shell is started beside the first, and must be
-refused the store. Prints a count; where something differs, what, and the folder
+log's file can't grow beyond some size, and forces fail. Before each third run the store's log is written anew, by a
+process that most times is killed amid that. At times a second shell is started beside the first, and must be refused the
+store. Prints a count; where something differs, what, and the folder
 that has the script, the text and the store, exit status 1.
 A kill takes no byte from the system that was handed to it, so this shows nothing of a machine that stops.
 """
 import os
 import random
+import re
 import resource
 import shutil
 import signal
@@ -27,7 +29,9 @@ from store_model import Differs, Model, Writer, follow
 LINES = 3000
 LONGEST = 1.5  # seconds of a run
 MAKING = 0.02  # seconds in which a store is made
+COMPACTING = 0.02  # seconds in which a log is written anew
 EACH = 20  # runs on a store
+TORN = re.compile(r"undo_shell: .*: a torn block of [0-9]+ bytes at byte [0-9]+ is left out")
 
 
 class Run:
@@ -62,7 +66,7 @@ class Run:
         process.stderr.close()
 
     def check(self):
-        if self.status not in (-signal.SIGKILL, 0, 3) or self.fault:
+        if self.status not in (-signal.SIGKILL, 0, 3) or self.fault and not TORN.fullmatch(self.fault):
             raise Differs(f"exit status {self.status}: {self.fault}")
         if self.second_ran:
             raise Differs("a second shell wasn't refused the store")
@@ -84,17 +88,37 @@ def runs_beside(shell, store, process):
     return not is_refused and process.poll() is None
 
 
+def compact(shell, store, chance):
+    """Writes the log anew, or is killed before that is done. Gives whether it was done."""
+    process = subprocess.Popen([shell, "compact", "--store", store], stdout=subprocess.PIPE, stderr=subprocess.PIPE)
+    timer = threading.Timer(chance.choice([COMPACTING, 60]) * chance.random(), process.kill)
+    timer.start()
+    _, fault = process.communicate()
+    timer.cancel()
+    if process.returncode not in (-signal.SIGKILL, 0) or fault and b"torn block" not in fault:
+        raise Differs(f"compact: exit status {process.returncode}: {fault.decode(errors='replace')}")
+    return process.returncode == 0
+
+
 def main(shell, runs, seed):
     chance = random.Random(seed)
     folder = tempfile.mkdtemp()
     store = os.path.join(folder, "store")
-    killed = full = lines = commits = untold = 0
+    killed = full = lines = commits = untold = renewals = renewed = 0
     for number in range(runs):
         longest = LONGEST
         if number % EACH == 0:
             shutil.rmtree(store, ignore_errors=True)
             model = Model()
             longest = chance.choice([MAKING, LONGEST])
+        elif chance.random() < 1 / 3:
+            renewals += 1
+            model.renew()
+            try:
+                renewed += compact(shell, store, chance)
+            except Differs as error:
+                print(f"run {number + 1} of seed {seed}, {folder}: {error}")
+                return 1
         before = len(model.told), model.untold
         # A node whose log can't grow may not get to rest, and only then the model knows what a crash has left.
         room = chance.choice([None, None, None, chance.randrange(4000)])
@@ -113,7 +137,7 @@ def main(shell, runs, seed):
         untold += model.untold - before[1]
     shutil.rmtree(folder)
     print(f"{runs} runs, {killed} of them killed and {full} with a full disk; {lines} lines, {commits} commits, {untold} of them told by the records "
-          f"alone; 0 differ")
+          f"alone; {renewals} renewals, {renewed} of them not killed; 0 differ")
     return 0
 
 

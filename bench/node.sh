@@ -8,7 +8,7 @@
 # workers: g upserts of four clients, each on a thread and on keys of its own, h every second transaction rolled back, one
 # the work of g by one session.
 # Prints operations a second at 1,000, 10,000 and 100,000 operations, each the best of five runs, and the ratio of the
-# last to the first. Then what follows a crash, in milliseconds for each 1,000 upserts: f of both components, of upserts
+# last to the first; of the inserts also at 100,000, 1,000,000 and 3,000,000 rows, in one run each. Then what follows a crash, in milliseconds for each 1,000 upserts: f of both components, of upserts
 # committed in tens and an open transaction of 1,000, until that is undone and a row is read; checked the same with a
 # checkpoint just before the crash; of one open transaction whose upserts all lie before a checkpoint, and the transaction
 # component alone, first until a new insert is answered and undo until the node is settled. Last, how many bytes of
@@ -44,6 +44,13 @@ for workload in a early b c d e savepoints rising scattered adds updates g h one
     done
     awk -v workload="$workload" -v first="$first" -v last="$rate" \
         'BEGIN { printf "%s, ratio of the last to the first: %.2f\n", workload, last / first }'
+done
+# Tables that grow: one run each, since the largest takes a quarter of a minute.
+for workload in rising scattered; do
+    for operations in 100000 1000000 3000000; do
+        rate=$(./out/bench_node node "$workload" "$operations" | cut -d, -f6)
+        printf '%s, %s rows: %s a second\n' "$workload" "$operations" "$rate"
+    done
 done
 restart() {
     for run in 1 2 3 4 5; do

@@ -20,10 +20,9 @@ VALUE = "v" * 60
 
 def script(commits):
     """One transaction after another, each sent before it is stable and forced once, at its commit."""
-    lines = ["settle"]
-    # The session's start has taken the first two messages each way.
+    lines = []
     for n in range(commits):
-        lines += [f"begin t{n}", f"upsert t{n} k{n % KEYS:04} {VALUE}", f"send t{n}", f"req {n + 3}", f"rep {n + 3}",
+        lines += [f"begin t{n}", f"upsert t{n} k{n % KEYS:04} {VALUE}", f"send t{n}", "req 1", "rep 1", "forget",
                   f"commit t{n}", "force", "tend"]
     return "\n".join(lines) + "\n"
 
@@ -42,7 +41,7 @@ def store_times(program, folder, commits):
     took, told = shell(program, store, script(commits))
     if told.count("committed") != commits:
         sys.exit(f"{told.count('committed')} commits were told, not {commits}")
-    opened, read = shell(program, store, "settle\ntable\n")
+    opened, read = shell(program, store, "table\n")
     if f"rows {min(commits, KEYS)}\n" not in read:
         sys.exit("the store was opened with other rows")
     size = os.path.getsize(f"{store}/log")

@@ -110,6 +110,10 @@ class Model:
         self.labels = {}
         self.unsure = True
 
+    def renew(self):
+        """The log may have been written anew: then the numbers of transactions begin anew."""
+        self.told = set()
+
     def possible(self):
         """The tables that the store may have, the one of what was told first."""
         tables = [dict(self.base)]
