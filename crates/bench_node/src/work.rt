@@ -158,7 +158,7 @@ impl Work {
         }
         if count >= self.next && self.workload.writes() {
             self.client.lower()?;
-            self.next = count + LOWERED.max(self.client.leaves()?);
+            self.next = count.saturating_add(LOWERED.max(self.client.leaves()?));
         }
         Ok(())
     }
