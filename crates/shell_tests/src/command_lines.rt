@@ -38,16 +38,37 @@ fn put_asked(text: &mut String, alloc: Global, words: &[&str]) -> Result<(), Ref
 
 fn put_task(text: &mut String, task: Task<'_>) -> Result<(), Refusal> {
     match task {
-        Task::Run { continues, store } => put_run(text, continues, store),
+        Task::Run {
+            continues,
+            store,
+            reads_only,
+        } => put_run(text, continues, store, reads_only),
+        Task::Compact { store } => {
+            text.push_str("compact")?;
+            put_store(text, store)
+        }
         Task::Pool { sessions, rounds } => Ok(write!(text, "pool {sessions} {rounds}")?),
         Task::Explain { at } => put_numbered(text, "explain", at),
         Task::Draw { last } => put_numbered(text, "draw", last),
     }
 }
 
-/// A run, which may go on behind failures and may be of a store.
-fn put_run(text: &mut String, continues: bool, store: Option<&str>) -> Result<(), Refusal> {
+/// A run, which may go on behind failures and may be of a store, which may be read only.
+fn put_run(
+    text: &mut String,
+    continues: bool,
+    store: Option<&str>,
+    reads_only: bool,
+) -> Result<(), Refusal> {
     text.push_str(if continues { "run on" } else { "run" })?;
+    put_store(text, store)?;
+    if reads_only {
+        text.push_str(" read only")?;
+    }
+    Ok(())
+}
+
+fn put_store(text: &mut String, store: Option<&str>) -> Result<(), Refusal> {
     match store {
         Some(folder) => Ok(write!(text, " of {folder}")?),
         None => Ok(()),
