@@ -1,4 +1,6 @@
 //! What is done with a store: a script is run on it, or its log is written anew.
+ghost use Rattle.std.specs.Prelude.{◌≡◌, [], IfOk};
+
 use file_devices::{
     FileLog, NoPages, StoreError, StoreFile, Torn, Tried, open_store, read_store, replace_log,
 };
@@ -17,14 +19,22 @@ pub fn run_stored<R>(rt: &R, continues: bool, reads_only: bool, folder: &str) ->
 where
     R: Input + Print + Eprint + AllocGlobal + Files<File = File> + Copy,
 {
-    let opened = if reads_only {
+    match opened(rt, folder, reads_only) {
+        Ok(log) => run_log(rt, continues, folder, log),
+        Err(error) => print_unopened(rt, folder, &error),
+    }
+}
+
+/// The log of the store in this folder, for reading alone or not.
+fn opened<R>(rt: &R, folder: &str, reads_only: bool) -> Result<FileLog, StoreError>
+where
+    R: AllocGlobal + Files<File = File> + Copy,
+    ensures { IfOk result (λ log. log.pending ≡ []) }
+{
+    if reads_only {
         read_store(rt, folder)
     } else {
         open_store(rt, folder)
-    };
-    match opened {
-        Ok(log) => run_log(rt, continues, folder, log),
-        Err(error) => print_unopened(rt, folder, &error),
     }
 }
 
@@ -46,6 +56,7 @@ where
 fn run_log<R>(rt: &R, continues: bool, folder: &str, log: FileLog) -> u8
 where
     R: Input + Print + Eprint + AllocGlobal,
+    requires { log.pending ≡ [] }
 {
     match node_on(rt, folder, log) {
         Ok(world) => run_world(rt, continues, Box::into_inner(world)),
@@ -58,6 +69,7 @@ where
 fn node_on<R>(rt: &R, folder: &str, log: FileLog) -> Result<Box<Node>, u8>
 where
     R: Eprint + AllocGlobal,
+    requires { log.pending ≡ [] }
 {
     if let Some(torn) = log.torn() {
         if print_torn(rt, folder, torn).is_err() {
@@ -95,6 +107,7 @@ where
 fn compact_log<R>(rt: &R, folder: &str, log: FileLog) -> u8
 where
     R: Print + Eprint + AllocGlobal + Files<File = File>,
+    requires { log.pending ≡ [] }
 {
     match node_on(rt, folder, log) {
         Ok(world) => compact_node(rt, folder, &world),
