@@ -1,5 +1,5 @@
 -- A loop that puts entries at their places.
-use Rattle.std.proofs.Common.{◌≡◌, ◌<◌, ◌+◌, ℕ, List, ◌∷◌, length, drop, drop-cons, add-one, suc, get_or, sym, ap, ◌∙◌, subst}
+use Rattle.std.proofs.Common.{arith, ◌≡◌, ◌<◌, ◌+◌, ℕ, List, length, drop, drop-cons, add-one, get_or}
 use Rattle.record_key.specs.declared.entry.Entry.{Entry}
 use Rattle.record_key.specs.Entries.{RiseAbove}
 use Rattle.ab_lsn.specs.Parting.{placed_above, placed_all}
@@ -14,9 +14,4 @@ pub record IsPlacing (low : ℕ) (end rest now : List Entry) : Type 0 where
 pub placed_one : (low : ℕ) (end es : List Entry) (i : ℕ) (e : Entry) (now new : List Entry) → i < length es
     → e ≡ get_or es i e → IsPlacing low end (drop i es) now
     → new ≡ placed_above low e now → IsPlacing low end (drop (i + 1) es) new
-placed_one low end es i e now new lt is h placed =
-    let left : drop i es ≡ e ∷ drop (i + 1) es =
-    rw (add-one) (drop-cons es i e lt ∙ ap (λ (x : Entry). x ∷ drop (suc i) es) (sym is)) in
-    let turn : IsPlacing low end (e ∷ drop (i + 1) es) now =
-    subst (λ (rest : List Entry). IsPlacing low end rest now) left h in
-    record { done = rw placed turn.done; rising = rw placed (above_rises_too low e now turn.rising) }
+placed_one low end es i e now new lt is h placed = grind (arith, add-one, drop-cons, above_rises_too)

@@ -1,5 +1,5 @@
 -- Entries whose numbers rise: what stands in them, and what a place among them tells.
-use Rattle.std.proofs.Common.{◌≡◌, ◌≢◌, ℕ, zero, suc, ◌<◌, ◌≤◌, ◌==◌, Bool, true, false, cond, List, [], ◌∷◌, get_or, Some, None, refl, sym, ap, ◌∙◌, arith, inl, inr, true≢false, eq-eqb, ne_eqb, lt-ltb, filter}
+use Rattle.std.proofs.Common.{◌≡◌, ◌≢◌, ℕ, zero, suc, ◌<◌, ◌≤◌, ◌==◌, Bool, true, false, cond, List, [], ◌∷◌, get_or, Some, None, refl, sym, ◌∙◌, arith, inl, inr, true≢false, eq-eqb, ne_eqb, lt-ltb, filter}
 use Rattle.std.specs.List.{insert}
 use Rattle.std.specs.Ordering.{nat_cmp}
 use Rattle.std.specs.declared.cmp.Ordering.TheVariants.{Less, Equal, Greater}
@@ -29,8 +29,7 @@ rises l es h = rises_from 0 l es (omega arith) h
 -- what is kept of rising numbers rises
 kept_rises : (b : Bool) (l : ℕ) (e : Entry) (es : List Entry) → l < e.number → RiseAbove e.number es
     → RiseAbove l (cond b (e ∷ es) es)
-kept_rises true l e es lt h = (lt, h)
-kept_rises false l e es lt h = rises_from l e.number es (omega (arith, lt)) h
+kept_rises b l e es lt h = grind (arith, rises_from)
 
 pub filtered_rises : (p : Entry → Bool) (l : ℕ) (es : List Entry) → RiseAbove l es → RiseAbove l (filter p es)
 filtered_rises p l [] h = tt
@@ -40,9 +39,7 @@ filtered_rises p l (e ∷ es) h = kept_rises (p e) l e (filter p es) h.0 (filter
 pub at_stands : (n : ℕ) (es : List Entry) (p : ℕ) → HasNumberAt n es p → stands_in es n ≡ true
 at_stands n [] p at = absurd at
 at_stands n (e ∷ es) zero at = rw (eq-eqb n e.number (tie n e.number at)) refl
-at_stands n (e ∷ es) (suc p) at =
-    let above : e.number < n = greater n e.number at.0 in
-    rw (ne_eqb n e.number (λ same. omega (arith, same, above))) (at_stands n es p at.1)
+at_stands n (e ∷ es) (suc p) at = grind (arith, at_stands n es p at.1, greater, ne_eqb)
 
 pub below_stands : (n l : ℕ) (es : List Entry) → n ≤ l → RiseAbove l es → stands_in es n ≡ false
 below_stands n l [] le h = refl
@@ -52,21 +49,15 @@ below_stands n l (e ∷ es) le h =
 
 pub gap_stands : (n l : ℕ) (es : List Entry) (p : ℕ) → RiseAbove l es → IsGapForNumber n es p → stands_in es n ≡ false
 gap_stands n l [] p h gap = refl
-gap_stands n l (e ∷ es) zero h gap =
-    let below : n < e.number = less n e.number gap in
-    rw (ne_eqb n e.number (λ same. omega (arith, same, below))) (below_stands n e.number es (omega (arith, below)) h.1)
-gap_stands n l (e ∷ es) (suc p) h gap =
-    let above : e.number < n = greater n e.number gap.0 in
-    rw (ne_eqb n e.number (λ same. omega (arith, same, above))) (gap_stands n e.number es p h.1 gap.1)
+gap_stands n l (e ∷ es) zero h gap = grind (arith, less, ne_eqb, below_stands)
+gap_stands n l (e ∷ es) (suc p) h gap = grind (arith, gap_stands n e.number es p h.1 gap.1, greater, ne_eqb)
 
 -- the answer that is saved at a place, and none in a gap
 pub at_saved : (n : ℕ) (es : List Entry) (p : ℕ) (d : Entry) → HasNumberAt n es p
     → saved_in es n ≡ Some (get_or es p d).answer
 at_saved n [] p d at = absurd at
 at_saved n (e ∷ es) zero d at = rw (eq-eqb e.number n (sym (tie n e.number at))) refl
-at_saved n (e ∷ es) (suc p) d at =
-    let above : e.number < n = greater n e.number at.0 in
-    rw (ne_eqb e.number n (λ same. omega (arith, same, above))) (at_saved n es p d at.1)
+at_saved n (e ∷ es) (suc p) d at = grind (arith, at_saved n es p d at.1, greater, ne_eqb)
 
 pub unsaved : (n : ℕ) (es : List Entry) → stands_in es n ≡ false → saved_in es n ≡ None
 unsaved n [] h = refl
@@ -79,11 +70,8 @@ unsaved n (e ∷ es) h =
 pub gap_placed : (f : Entry) (es : List Entry) (p : ℕ) → IsGapForNumber f.number es p → with_entry f es ≡ insert es p f
 gap_placed f [] zero gap = refl
 gap_placed f [] (suc p) gap = absurd (omega (arith, gap))
-gap_placed f (e ∷ es) zero gap =
-    let below : f.number < e.number = less f.number e.number gap in
-    rw (le-ltb e.number f.number (omega (arith, below))) refl
-gap_placed f (e ∷ es) (suc p) gap =
-    rw (lt-ltb e.number f.number (greater f.number e.number gap.0)) (ap (λ rest. e ∷ rest) (gap_placed f es p gap.1))
+gap_placed f (e ∷ es) zero gap = grind (arith, less, le-ltb)
+gap_placed f (e ∷ es) (suc p) gap = grind (arith, gap_placed f es p gap.1, lt-ltb, greater)
 
 -- and the numbers rise still
 pub placed_rises : (f : Entry) (l : ℕ) (es : List Entry) → l < f.number → RiseAbove l es → stands_in es f.number ≡ false

@@ -1,5 +1,5 @@
 -- How a device is used whose calls the system may refuse at any time.
-use Rattle.std.specs.Prelude.{◌+◌, true, None}
+use Rattle.std.specs.Prelude.{◌+◌, true}
 use Rattle.stable.specs.Usage.{Usage, unused}
 
 -- never used, and each of its calls may fail
@@ -8,4 +8,4 @@ freely_unused = record unused { freely = true }
 
 -- after a call that was counted as one that succeeded, and that the system refused
 abbrev pub refused : Usage → Usage
-refused u = record u { failures = u.failures + 1; failing = None }
+refused u = record u { failures = u.failures + 1 }

@@ -1,6 +1,6 @@
 //! How a device over files was used, and the call of it that was set to fail. The system may refuse any other too.
-ghost use Rattle.std.specs.Prelude.{◌≡◌, ◌≤◌, Some, Err, IsTrue, IsOkUnless};
-ghost use Rattle.stable.specs.Usage.{is_due, used, failing_in};
+ghost use Rattle.std.specs.Prelude.{◌≡◌, ◌≤◌, Some, Err, false, IsTrue, OnOk, IsOkUnless};
+ghost use Rattle.stable.specs.Usage.{is_due, is_set, used, failing_in};
 ghost use Rattle.stable.specs.declared.error.DeviceError.TheVariants.{Device};
 ghost use Rattle.file_devices.specs.Failing.{freely_unused, refused};
 
@@ -50,6 +50,7 @@ impl Faults {
 
     /// Counts a call, which fails if it is the one that was set.
     pub(crate) fn call(&mut self) -> Result<(), DeviceError>
+        ensures set { OnOk result (is_set self.old ≡ false) }
         ensures due { IsTrue (is_due self.old) }
         ensures only_device { IsOkUnless result DeviceError.Device }
         ensures used { self.new ≡ used self.old result }
@@ -64,13 +65,15 @@ impl Faults {
         Ok(())
     }
 
-    /// Counts a call that fails.
+    /// Counts a call that fails. If it isn't the one that was set, that is still to come.
     pub(crate) fn refuse(&mut self) -> Result<(), DeviceError>
         ensures due { IsTrue (is_due self.old) }
         ensures device { result ≡ Err Device }
         ensures used { self.new ≡ used self.old result }
     {
-        self.countdown = None;
+        if let Some(n) = self.countdown {
+            self.countdown = if n <= 1 { None } else { Some(n - 1) };
+        }
         self.calls.add_one();
         self.failures.add_one();
         Err(DeviceError::Device)
@@ -81,7 +84,6 @@ impl Faults {
         ensures device { result ≡ Err Device }
         ensures refused { self.new ≡ refused self.old }
     {
-        self.countdown = None;
         self.failures.add_one();
         Err(DeviceError::Device)
     }

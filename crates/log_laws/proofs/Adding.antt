@@ -1,11 +1,11 @@
 -- Which numbers of a log do an Add or undo one.
-use Rattle.std.proofs.Common.{◌≡◌, ◌≢◌, ℕ, ◌+◌, Bool, true, cond, List, [], ◌∷◌, length, Option, Some, refl, sym, ap, ◌∙◌, inl, inr, eq-eqb, ne_eqb}
+use Rattle.std.proofs.Common.{arith, ◌≡◌, ◌≢◌, ℕ, ◌+◌, cond, List, [], ◌∷◌, length, Option, Some, ap, ◌∙◌, inl, inr, eq-eqb, ne_eqb}
 use Rattle.std.proofs.lemmas.Bool.{cases_eq}
 use Rattle.record_key.specs.declared.op.Op.{Op}
 use Rattle.record_key.specs.Table.{is_add}
 use Rattle.history.specs.declared.record.Record.{Record}
 use Rattle.history.specs.declared.record.Record.TheVariants as is
-use Rattle.history.specs.Log.{record_at, IsOpBy}
+use Rattle.history.specs.Log.{IsOpBy}
 use Rattle.history.specs.Chains.{is_add_by, adds_next, adds_at, BothAdd}
 use Rattle.log_laws.proofs.Records.{AnOp, IsNumber, newest_at, older_at, not_newest}
 
@@ -27,8 +27,7 @@ both_kept r log n m one other both = (adds_kept r log n one ∙ both.0, adds_kep
 
 -- an operation's number does an Add where it is one
 op_adds_next : (r : Record) (log : List Record) (t : ℕ) (o : Op) → AnOp t o (Some r) → adds_next log r ≡ is_add o
-op_adds_next (is.Op u p q) log t o h = ap is_add_by h
-op_adds_next _ log t o h = absurd (cc)
+op_adds_next r log t o h = grind arith
 
 pub op_adds : (log : List Record) (n t : ℕ) (o : Op) → IsOpBy log n t o → adds_at log n ≡ is_add o
 op_adds [] n t o h = absurd (cc)

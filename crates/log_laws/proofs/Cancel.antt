@@ -1,13 +1,14 @@
 -- Operations and inverses together leave what the operations that stand leave alone.
-use Rattle.std.proofs.Common.{◌≡◌, ◌≢◌, ℕ, ◌+◌, false, List, [], ◌∷◌, length, Option, Some, None, refl, sym, ap, ◌∙◌, subst, inl, inr, true≢false, ne_eqb}
-use Rattle.std.specs.Prelude.{◌&&◌, ◌||◌, ◌==◌, not, if◌then◌else◌}
+use Rattle.std.proofs.lemmas.Bool.Decides.{nat_tests}
+use Rattle.std.proofs.Common.{arith, ◌≡◌, ℕ, ◌+◌, false, List, [], ◌∷◌, length, Option, Some, refl, sym, ap, ◌∙◌, subst, inl, inr, true≢false, ne_eqb}
+use Rattle.std.specs.Prelude.{◌||◌, ◌==◌, not}
 use Rattle.std.proofs.lemmas.Bool.{cases_eq, cases_Bool}
 use Rattle.record_key.specs.declared.op.Op.{Op}
 use Rattle.record_key.specs.declared.op.Answer.{Answer}
 use Rattle.record_key.specs.Table.{Bytes, key_of, is_add, answer_at, value_after}
-use Rattle.record_key.proofs.Tables.{is_same, is_same-refl, is_same-true}
+use Rattle.record_key.proofs.Tables.{is_same-refl, is_same-true}
 use Rattle.inverse.specs.Inverse.{inverse_of, IsEffective}
-use Rattle.inverse.proofs.Undo.{PutsBack, Outcome, outcome, inverse_key}
+use Rattle.inverse.proofs.Undo.{PutsBack, Outcome, outcome}
 use Rattle.history.specs.declared.record.Record.{Record}
 use Rattle.history.specs.declared.record.Record.TheVariants as is
 use Rattle.history.specs.Log.{record_at, before, is_crossed, Requests, IsOpBy}
@@ -23,17 +24,12 @@ use Rattle.log_laws.proofs.Compensations.{undone_is, standing_left, answered_wit
 
 -- at the operation's key its inverse gives back what was there
 pub given_back : (o : Op) (r : Option Bytes) (i : Option Op) → Outcome o r i → value_with (key_of o) i (value_after o r) ≡ r
-given_back o r None h = h
-given_back o r (Some i) h =
-    ap (λ q. if is_on q i then value_after i (value_after o r) else value_after o r) (sym h.key)
-    ∙ ap (λ b. if b then value_after i (value_after o r) else value_after o r) (is_same-refl (key_of i)) ∙ h.value
+given_back o r i h = grind (arith, is_same-refl)
 
 -- and at another key it does nothing
 pub elsewhere : (k : Bytes) (o : Op) (a : Answer) (i : Option Op) (r : Option Bytes) → is_on k o ≡ false
     → i ≡ inverse_of o a → value_with k i r ≡ r
-elsewhere k o a None r off e = refl
-elsewhere k o a (Some i) r off e =
-    ap (λ b. if b then value_after i r else r) (ap (is_same k) (inverse_key o i a (sym e)) ∙ off)
+elsewhere k o a i r off e = grind arith
 
 -- what the law says of a log and of all its beginnings
 abbrev Cancels : List Record → Type 0
@@ -96,13 +92,7 @@ module _ (log : List Record) (t u x : ℕ) (i : Option Op) (legal : IsLegal log)
   cancelled_elsewhere : (k : Bytes) → is_on k o ≡ false
       → value_with k i (value_on k log) ≡ value_where k (λ n. not ((n == u) || is_crossed log n)) log
   cancelled_elsewhere k off =
-      elsewhere k o fits.inverse.answer i (value_on k log) off fits.inverse.inverse ∙ cancels log all k
-      ∙ values_alike k (λ n. not (is_crossed log n)) (λ n. not ((n == u) || is_crossed log n)) log (λ n v q is_op on.
-      let apart : n ≢ u = λ e.
-      let there : IsOpBy log u v q = subst (λ (z : ℕ). IsOpBy log z v q) e is_op in
-      true≢false (sym on ∙ ap (is_on k) (op_same v t q o (record_at log u) there (undone_is log t u x i legal fits)).1
-      ∙ off) in
-      ap (λ b. not (b || is_crossed log n)) (sym (ne_eqb n u apart)))
+      grind (arith, nat_tests, elsewhere, cancels, values_alike, true≢false, op_same, undone_is, ne_eqb)
 
   -- so a log cancels still with a compensation more
   comp_cancels : Cancels (is.Comp t u x i ∷ log)
@@ -118,10 +108,7 @@ module _ (log : List Record) (t u x : ℕ) (i : Option Op) (legal : IsLegal log)
 -- and with any record that fits
 cancels_next : (r : Record) (log : List Record) → Fits log r → IsLegal log → HasRightAnswers log → AllCancel log
     → Cancels (r ∷ log)
-cancels_next (is.Op t p o) log fits legal right all k =
-    ap (λ v. if is_on k o then value_after o v else v) (cancels log all k)
-    ∙ ap (λ b. if not b && is_on k o then value_after o (value_standing k log) else value_standing k log)
-    (sym (uncrossed_next log legal))
+cancels_next (is.Op t p o) log fits legal right all k = grind (arith, cancels, uncrossed_next)
 cancels_next (is.Comp t u x i) log fits legal right all k = comp_cancels log t u x i legal fits right all k
 cancels_next _ log fits legal right all k = cancels log all k
 
@@ -129,8 +116,7 @@ cancels_next _ log fits legal right all k = cancels log all k
 all_cancel : (log : List Record) → IsLegal log → HasRightAnswers log → AllCancel log
 all_cancel [] legal right = tt
 all_cancel (r ∷ log) legal right =
-    let rest = all_cancel log legal.1 (right_rest r log right) in
-    (cancels_next r log legal.0 legal.1 (right_rest r log right) rest, rest)
+    grind (arith, all_cancel log legal.1 (right_rest r log right), right_rest, cancels_next)
 
 -- operations and inverses together leave what stands
 pub cancel : CompensationsCancel

@@ -1,11 +1,11 @@
 -- What holds of every number of a log, from what was read at each.
-use Rattle.std.proofs.Common.{◌≡◌, ◌≢◌, ℕ, ◌+◌, ◌≤◌, ◌⊎◌, Bool, true, false, List, length, IsSome, is_some, refl, sym, ap, ◌∙◌, subst, arith, inl, inr, true≢false, IsTrue, nat_eq, ◌↔◌, not, eqb-true, eq-eqb}
+use Rattle.std.proofs.Common.{◌≡◌, ◌≢◌, ℕ, ◌+◌, ◌≤◌, ◌⊎◌, Bool, true, false, List, length, IsSome, is_some, refl, subst, arith, inl, inr, IsTrue, nat_eq, ◌↔◌, not}
 use Rattle.std.specs.Prelude.{◌&&◌}
 use Rattle.std.proofs.lemmas.Bool.{cases_eq, cases_Bool, and_parts}
 use Rattle.record_key.specs.declared.op.Op.{Op}
 use Rattle.record_key.specs.Table.{is_add}
 use Rattle.history.specs.declared.record.Record.{Record}
-use Rattle.history.specs.Log.{answer_of, request_in}
+use Rattle.history.specs.Log.{request_in}
 use Rattle.history.specs.Legal.{IsIdle, IsKeyFree, IsLatest, IsLatestOrNone, AreAnswered}
 use Rattle.log_laws.specs.Reading.{Waits, Blocks, LacksAnswer}
 use Rattle.log_laws.proofs.Records.{IsNumber, within}
@@ -24,12 +24,7 @@ lacks_number log low n h = within (λ r. IsSome (request_in r)) (λ e. cc) log n
 
 -- where none waits, the transaction is idle
 pub idle_from : (log : List Record) (t : ℕ) → ((n : ℕ) → n ≤ length log → Waits log t n → ⊥) → IsIdle log t
-idle_from log t none n o step asks =
-    elim (cases_Bool (is_some (answer_of log n))) [
-      | inl answered ↦ answered
-      | inr waits ↦ absurd (none n (step_number log n t step).bounded
-          (record { step = step; requested = ap is_some asks; unanswered = waits }))
-    ]
+idle_from log t none n o step asks = grind (arith, cases_Bool, is_some, step_number)
 
 -- where none blocks, the key is free
 pub free_from : (log : List Record) (t : ℕ) (o : Op) → ((n : ℕ) → n ≤ length log → Blocks log t o n → ⊥)
@@ -55,12 +50,7 @@ free_from log t o none n u q is_op same goes_on =
 -- where none lacks its answer, all are answered
 pub answered_from : (log : List Record) (low : ℕ) → ((n : ℕ) → n ≤ length log → LacksAnswer log low n → ⊥)
     → AreAnswered log low
-answered_from log low none n o below asks =
-    elim (cases_Bool (is_some (answer_of log n))) [
-      | inl answered ↦ answered
-      | inr waits ↦ absurd (none n (request_number log n o asks).bounded
-          (record { below = below; requested = ap is_some asks; unanswered = waits }))
-    ]
+answered_from log low none n o below asks = grind (arith, cases_Bool, is_some, request_number)
 
 -- the greatest of those read so far: of none, and of all
 pub latest_none : (P : ℕ → Type 0) → (P 0 → ⊥) → IsLatestOrNone (λ n. P n × (n ≤ 0)) 0
@@ -75,50 +65,28 @@ latest_all P size x bounded found = latest_as (λ n. P n × (n ≤ size)) P (λ 
 pub latest_more : (P : ℕ → Type 0) (i x y : ℕ) (b : Bool) → IsLatestOrNone (λ n. P n × (n ≤ i)) x
     → ((b ≡ true → P (i + 1)) × (P (i + 1) → b ≡ true))
     → ((b ≡ true) × (y ≡ i + 1)) ⊎ ((b ≡ false) × (y ≡ x)) → IsLatestOrNone (λ n. P n × (n ≤ i + 1)) y
-latest_more P i x y b found decides (inl h) =
-    inl (record {
-      is = (subst P (sym h.1) (decides.0 h.0), omega (arith, h.1));
-      greatest = λ m l. omega (arith, l.1, h.1);
-    })
-latest_more P i x y b found decides (inr h) =
-    let still : (m : ℕ) → P m → m ≤ i + 1 → m ≤ i = λ m p within.
-    elim (cases_eq m (i + 1))
-    [ inl e ↦ absurd (true≢false (sym (decides.1 (subst P e p)) ∙ h.0)) | inr e ↦ omega arith ] in
-    subst (IsLatestOrNone (λ n. P n × (n ≤ i + 1))) (sym h.1)
-    (latest_as (λ n. P n × (n ≤ i)) (λ n. P n × (n ≤ i + 1)) (λ n l. (l.0, omega (arith, l.1)))
-    (λ n l. (l.0, still n l.0 l.1)) x found)
+latest_more h i x y b found decides h2 = grind arith
 
 -- a kind of numbers has one greatest
 pub latest_unique : (P : ℕ → Type 0) (x y : ℕ) → IsLatestOrNone P x → IsLatestOrNone P y → x ≡ y
-latest_unique P x y (inl a) (inl b) = omega (arith, a.greatest y b.is, b.greatest x a.is)
-latest_unique P x y (inl a) (inr b) = absurd (b.1 x a.is)
-latest_unique P x y (inr a) (inl b) = absurd (a.1 y b.is)
-latest_unique P x y (inr a) (inr b) = a.0 ∙ sym b.0
+latest_unique h x y h2 h3 = grind arith
 
 -- which, unless it is 0, is one of them
 pub latest_some : (P : ℕ → Type 0) (x : ℕ) → x ≢ 0 → IsLatestOrNone P x → IsLatest P x
-latest_some P x some (inl h) = h
-latest_some P x some (inr h) = absurd (some h.0)
+latest_some h x some h2 = grind arith
 
 -- so a number is tested against the one that was found
 pub is_the_latest : (P : ℕ → Type 0) (x y : ℕ) → IsLatestOrNone P x → IsTrue (nat_eq x y) ↔ IsLatestOrNone P y
-is_the_latest P x y found =
-    (λ e. subst (IsLatestOrNone P) (eqb-true x y e) found, λ h. eq-eqb x y (latest_unique P x y found h))
+is_the_latest h x y found = grind arith
 
 -- the same where one is wanted
 pub is_the_next : (P : ℕ → Type 0) (x y : ℕ) → y ≢ 0 → IsLatestOrNone P x → IsTrue (nat_eq x y) ↔ IsLatest P y
-is_the_next P x y some found = (
-  λ e. latest_some P y some (subst (IsLatestOrNone P) (eqb-true x y e) found),
-  λ h. eq-eqb x y (latest_unique P x y found (inl h)),
-)
+is_the_next h x y some found = grind arith
 
 -- 0 is no greatest number
 pub is_zero : (P : ℕ → Type 0) (y : ℕ) → y ≡ 0 → (P 0 → ⊥) → IsTrue (not (nat_eq y 0)) ↔ IsLatest P y
-is_zero P y zero zero_is_none =
-    (λ e. absurd (true≢false (sym e ∙ ap not (eq-eqb y 0 zero))), λ h. absurd (zero_is_none (subst P zero h.is)))
+is_zero h y h2 zero_is_none = grind arith
 
 -- 0 was found just where there is none
 pub is_none : (P : ℕ → Type 0) (x : ℕ) → (P 0 → ⊥) → IsLatestOrNone P x → IsTrue (nat_eq x 0) ↔ ((n : ℕ) → P n → ⊥)
-is_none P x zero_is_none (inl h) =
-    (λ e. absurd (zero_is_none (subst P (eqb-true x 0 e) h.is)), λ none. absurd (none x h.is))
-is_none P x zero_is_none (inr h) = (λ e. h.1, λ none. eq-eqb x 0 h.0)
+is_none h x zero_is_none h2 = grind arith

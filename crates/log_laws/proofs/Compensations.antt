@@ -7,31 +7,21 @@ use Rattle.record_key.specs.declared.op.Op.{Op}
 use Rattle.record_key.specs.Table.{Bytes, key_of, is_add, AreAdds, answer_at, value_after}
 use Rattle.record_key.proofs.Tables.{is_same-refl, is_same-true}
 use Rattle.history.specs.declared.record.Record.{Record}
-use Rattle.history.specs.declared.record.Record.TheVariants as is
 use Rattle.history.specs.Log.{record_at, before, is_crossed, has_ended, IsOpBy}
 use Rattle.history.specs.Legal.{Fits, FitsComp, IsLegal}
 use Rattle.history.specs.Chains.{EndsBetween}
 use Rattle.history.specs.Values.{is_on, value_where, value_standing, value_without}
-use Rattle.log_laws.proofs.Records.{AnOp, op_step, op_request, op_same, IsNumber, which, not_newest, before_new, before_old, since, record_before}
+use Rattle.log_laws.proofs.Records.{AnOp, op_step, op_request, IsNumber, which, not_newest, before_new, before_old, since, record_before}
 use Rattle.log_laws.proofs.Adding.{op_adds}
 use Rattle.log_laws.proofs.LegalLogs.{ended_push, crossed_push, op_number}
-use Rattle.log_laws.proofs.Strict.{AnEnd, end_ends, strict}
+use Rattle.log_laws.proofs.Strict.{end_ends, strict}
 use Rattle.log_laws.proofs.Undo.{stands_since, number_before}
 use Rattle.log_laws.proofs.Values.{values_alike, value_split, value_last, answer_below, answers_alike}
 
 -- a transaction that has ended is crossed no further
 pub ended_crosses_none : (r : Record) (log : List Record) (n v : ℕ) (q : Op) → Fits log r → IsOpBy log n v q
     → has_ended log v ≡ true → is_crossed (r ∷ log) n ≡ is_crossed log n
-ended_crosses_none (is.Comp t w x i) log n v q fits is_op ended =
-    elim (cases_eq n w) [
-      | inl e ↦
-          let latest = fits.latest.is in
-          let there : IsOpBy log n t latest.op = subst (λ (z : ℕ). IsOpBy log z t latest.op) (sym e) latest.is in
-          let one : t ≡ v = (op_same t v latest.op q (record_at log n) there is_op).0 in
-          absurd (true≢false (sym ended ∙ ap (has_ended log) (sym one) ∙ fits.open_txn.goes_on))
-      | inr e ↦ ap (λ b. b || is_crossed log n) (ne_eqb n w e)
-    ]
-ended_crosses_none _ log n v q fits is_op ended = refl
+ended_crosses_none r log n v q fits is_op ended = grind arith
 
 -- so it stays as it was since a number before which its transaction ended
 pub frozen : (log : List Record) (u n v : ℕ) (q : Op) → IsLegal log → IsNumber log u → n < u
@@ -57,8 +47,7 @@ frozen (r ∷ log) u n v q legal number below is_op ended =
 -- who ended between two numbers had ended before the later one
 pub ended_before : (log : List Record) (t n m : ℕ) → IsNumber log m → EndsBetween log t n m
     → has_ended (before log m) t ≡ true
-ended_before log t n m number h =
-    end_ends (before log m) t h.end (subst (AnEnd t) (sym (record_before log h.end m number h.before)) h.is)
+ended_before log t n m number h = grind (arith, end_ends, record_before)
 
 -- at a compensation: what stands at its key
 module _ (log : List Record) (t u x : ℕ) (i : Option Op) (legal : IsLegal log) (fits : FitsComp log t u x i) where
@@ -67,10 +56,7 @@ module _ (log : List Record) (t u x : ℕ) (i : Option Op) (legal : IsLegal log)
 
   -- the operation that is undone is the transaction's
   pub undone_is : IsOpBy log u t undone
-  undone_is =
-      subst (λ (z : ℕ). IsOpBy log u z fits.inverse.op)
-      (op_same fits.inverse.txn t fits.inverse.op fits.latest.is.op (record_at log u) fits.inverse.is
-      fits.latest.is.is).0 fits.inverse.is
+  undone_is = grind arith
 
   -- its number is one of the log
   number : IsNumber log u

@@ -1,7 +1,6 @@
 -- What holds of every legal log: its beginnings, what its records fit, and what its numbers name.
-use Rattle.std.proofs.Common.{◌≡◌, ℕ, ◌+◌, Bool, true, false, cond, List, [], ◌∷◌, ◌++◌, length, Option, Some, IsSome, is_some, refl, sym, ap, ◌∙◌, subst, inl, inr, ◌⊎◌, eqb-true, true≢false, ne_eqb}
-use Rattle.std.specs.Prelude.{◌||◌, ◌==◌}
-use Rattle.std.proofs.lemmas.Bool.{cases_eq, cases_Bool, or_cases, or_right}
+use Rattle.std.proofs.Common.{arith, ◌≡◌, ℕ, ◌+◌, Bool, true, false, cond, List, [], ◌∷◌, ◌++◌, length, Option, Some, IsSome, is_some, refl, subst, inl, inr, ◌⊎◌}
+use Rattle.std.proofs.lemmas.Bool.{cases_eq, cases_Bool}
 use Rattle.record_key.specs.declared.op.Op.{Op}
 use Rattle.record_key.specs.declared.op.Answer.{Answer}
 use Rattle.history.specs.declared.record.Record.{Record}
@@ -9,7 +8,7 @@ use Rattle.history.specs.declared.record.Record.TheVariants as is
 use Rattle.history.specs.Log.{record_at, before, answer_of, is_crossed, has_ended, IsOpen, Requests, IsStepOf, IsOpBy, HasRequest}
 use Rattle.history.specs.Legal.{Fits, IsLegal, IsIdle, Stands}
 use Rattle.history.specs.Values.{HasRightAnswers}
-use Rattle.log_laws.proofs.Records.{AStep, AnOp, ARequest, op_step, no_step, no_op, no_request, newest_at, older_at, IsNumber, not_newest, within, kept_at, had_at, before_newest, before_older, until}
+use Rattle.log_laws.proofs.Records.{AStep, AnOp, ARequest, op_step, no_step, no_op, no_request, newest_at, older_at, IsNumber, not_newest, within, kept_at, before_newest, before_older, until}
 
 -- a beginning is legal
 pub legal_end : (newer older : List Record) → IsLegal (newer ++ older) → IsLegal older
@@ -18,8 +17,7 @@ legal_end (r ∷ newer) older h = legal_end newer older h.1
 
 -- answers are right without the newest record
 pub right_rest : (r : Record) (log : List Record) → HasRightAnswers (r ∷ log) → HasRightAnswers log
-right_rest (is.Answer n a) log h = h.1
-right_rest _ log h = h
+right_rest r log h = grind arith
 
 -- and in every beginning
 pub right_end : (newer older : List Record) → HasRightAnswers (newer ++ older) → HasRightAnswers older
@@ -47,44 +45,32 @@ fits_at (q ∷ log) n r h is =
 
 -- either of two answers is one
 some_either : (b : Bool) (a : Answer) (o : Option Answer) → IsSome o → IsSome (cond b (Some a) o)
-some_either true a o h = refl
-some_either false a o h = h
+some_either b a o h = grind arith
 
 -- what has ended, is answered or crossed stays so
 pub ended_push : (t : ℕ) (r : Record) (log : List Record) → has_ended log t ≡ true → has_ended (r ∷ log) t ≡ true
-ended_push t (is.Commit u) log h = or_right (t == u) (has_ended log t) h
-ended_push t (is.End u) log h = or_right (t == u) (has_ended log t) h
-ended_push t _ log h = h
+ended_push t r log h = grind arith
 
 pub answered_push : (n : ℕ) (r : Record) (log : List Record) → IsSome (answer_of log n) → IsSome (answer_of (r ∷ log) n)
-answered_push n (is.Answer m a) log h = some_either (n == m) a (answer_of log n) h
-answered_push n _ log h = h
+answered_push n r log h = grind arith
 
 pub crossed_push : (n : ℕ) (r : Record) (log : List Record) → is_crossed log n ≡ true → is_crossed (r ∷ log) n ≡ true
-crossed_push n (is.Comp t u x i) log h = or_right (n == u) (is_crossed log n) h
-crossed_push n _ log h = h
+crossed_push n r log h = grind arith
 
 -- so what isn't so yet wasn't so before
 pub falls : (a b : Bool) → (a ≡ true → b ≡ true) → b ≡ false → a ≡ false
-falls true b h e = absurd (true≢false (sym (h refl) ∙ e))
-falls false b h e = refl
+falls a b h e = grind arith
 
 -- a record that is a transaction's step has it open and idle, and ends nobody
 pub step_open : (log : List Record) (r : Record) (t : ℕ) → Fits log r → AStep t (Some r) → IsOpen log t
-step_open log (is.Op u p o) t h s = let e : u ≡ t = cc in subst (IsOpen log) e h.open_txn
-step_open log (is.Comp u w x i) t h s = let e : u ≡ t = cc in subst (IsOpen log) e h.open_txn
-step_open log _ t h s = absurd (cc)
+step_open log r t h s = grind arith
 
 pub step_idle : (log : List Record) (r : Record) (t : ℕ) → Fits log r → AStep t (Some r) → IsIdle log t
-step_idle log (is.Op u p o) t h s = let e : u ≡ t = cc in subst (IsIdle log) e h.idle
-step_idle log (is.Comp u w x i) t h s = let e : u ≡ t = cc in subst (IsIdle log) e h.idle
-step_idle log _ t h s = absurd (cc)
+step_idle log r t h s = grind arith
 
 pub step_ends_none : (log : List Record) (r : Record) (t u : ℕ) → AStep t (Some r)
     → has_ended (r ∷ log) u ≡ has_ended log u
-step_ends_none log (is.Op v p o) t u s = refl
-step_ends_none log (is.Comp v w x i) t u s = refl
-step_ends_none log _ t u s = absurd (cc)
+step_ends_none log r t u s = grind arith
 
 -- of a record: it is a Begin
 abbrev pub ABegin : Option Record → Type 0
@@ -111,13 +97,7 @@ begun (r ∷ log) t n h s =
 -- a transaction that has ended had, or does by the newest record
 pub ended_cases : (t : ℕ) (r : Record) (log : List Record) → has_ended (r ∷ log) t ≡ true
     → (has_ended log t ≡ true) ⊎ ((r ≡ is.Commit t) ⊎ (r ≡ is.End t))
-ended_cases t (is.Commit u) log h =
-    elim (or_cases (t == u) (has_ended log t) h)
-    [ inl e ↦ inr (inl (ap is.Commit (sym (eqb-true t u e)))) | inr e ↦ inl e ]
-ended_cases t (is.End u) log h =
-    elim (or_cases (t == u) (has_ended log t) h)
-    [ inl e ↦ inr (inr (ap is.End (sym (eqb-true t u e)))) | inr e ↦ inl e ]
-ended_cases t _ log h = inl h
+ended_cases t r log h = grind arith
 
 -- a number of an operation
 pub record SomeOp (log : List Record) (n : ℕ) : Type 0 where
@@ -137,30 +117,15 @@ step_number log n t h = within (AStep t) (no_step t) log n h
 
 -- and stays what it is in a longer log
 kept_op : (r : Record) (log : List Record) (n : ℕ) → SomeOp log n → SomeOp (r ∷ log) n
-kept_op r log n h = record {
-  txn = h.txn;
-  op = h.op;
-  is_op = kept_at (AnOp h.txn h.op) r log n (op_number log n h.txn h.op h.is_op) h.is_op;
-}
+kept_op r log n h = grind (arith, kept_at, op_number)
 
 kept_request : (r : Record) (log : List Record) (n : ℕ) → HasRequest log n → HasRequest (r ∷ log) n
-kept_request r log n h =
-    record {
-      op = h.op;
-      requested = kept_at (ARequest h.op) r log n (request_number log n h.op h.requested)
-          h.requested;
-    }
+kept_request r log n h = grind (arith, kept_at, request_number)
 
 -- what a compensation names is an operation of its transaction
 crossed_now : (r : Record) (log : List Record) (n : ℕ) → Fits log r → is_crossed (r ∷ log) n ≡ true
     → (is_crossed log n ≡ true → SomeOp log n) → SomeOp log n
-crossed_now (is.Comp t u x i) log n h c before =
-    elim (or_cases (n == u) (is_crossed log n) c) [
-      | inl e ↦ subst (SomeOp log) (sym (eqb-true n u e))
-          (record { txn = t; op = h.latest.is.op; is_op = h.latest.is.is })
-      | inr e ↦ before e
-    ]
-crossed_now _ log n h c before = before c
+crossed_now r log n h c h2 = grind arith
 
 -- so it is in the whole log
 pub crossed_is_op : (log : List Record) (n : ℕ) → IsLegal log → is_crossed log n ≡ true → SomeOp log n
@@ -170,12 +135,7 @@ crossed_is_op (r ∷ log) n h c = kept_op r log n (crossed_now r log n h.0 c (cr
 -- what is answered is a request
 answered_now : (r : Record) (log : List Record) (n : ℕ) → Fits log r → IsSome (answer_of (r ∷ log) n)
     → (IsSome (answer_of log n) → HasRequest log n) → HasRequest log n
-answered_now (is.Answer m a) log n h c before =
-    elim (cases_eq n m) [
-      | inl e ↦ subst (HasRequest log) (sym e) (record { op = h.op; requested = h.requested })
-      | inr e ↦ before (subst (λ (b : Bool). IsSome (cond b (Some a) (answer_of log n))) (ne_eqb n m e) c)
-    ]
-answered_now _ log n h c before = before c
+answered_now r log n h c h2 = grind arith
 
 -- so it is in the whole log
 pub answered_is_request : (log : List Record) (n : ℕ) → IsLegal log → IsSome (answer_of log n) → HasRequest log n
@@ -208,14 +168,8 @@ stands_number log t n h = op_number log n t h.op h.is
 
 pub stands_kept : (r : Record) (log : List Record) (t n : ℕ) → Stands log t n → is_crossed (r ∷ log) n ≡ false
     → Stands (r ∷ log) t n
-stands_kept r log t n h c =
-    record { op = h.op; is = kept_at (AnOp t h.op) r log n (stands_number log t n h) h.is; uncrossed = c }
+stands_kept r log t n h c = grind (arith, kept_at, stands_number)
 
 -- and it stood before the newest record
 pub stands_had : (r : Record) (log : List Record) (t n : ℕ) → IsNumber log n → Stands (r ∷ log) t n → Stands log t n
-stands_had r log t n is h =
-    record {
-      op = h.op;
-      is = had_at (AnOp t h.op) r log n is h.is;
-      uncrossed = falls (is_crossed log n) (is_crossed (r ∷ log) n) (crossed_push n r log) h.uncrossed;
-    }
+stands_had r log t n h h2 = grind arith

@@ -1,13 +1,12 @@
 -- What a legal log names was there before: a step's transaction, what is undone. And which transactions are open.
-use Rattle.std.proofs.Common.{◌≡◌, ℕ, ◌+◌, ◌<◌, true, false, List, [], ◌∷◌, length, Some, IsSome, is_some, refl, ap, ◌∙◌, subst, arith, inl, inr, eqb-true}
-use Rattle.std.specs.Prelude.{◌==◌}
-use Rattle.std.proofs.lemmas.Bool.{cases_Bool, or_cases}
+use Rattle.std.proofs.Common.{◌≡◌, ℕ, ◌+◌, ◌<◌, true, false, List, [], ◌∷◌, length, Some, IsSome, is_some, refl, subst, arith, inl, inr}
+use Rattle.std.proofs.lemmas.Bool.{cases_Bool}
 use Rattle.history.specs.declared.record.Record.{Record}
 use Rattle.history.specs.declared.record.Record.TheVariants as is
-use Rattle.history.specs.Log.{record_at, before, answer_of, is_crossed, has_ended, IsOpen, IsStepOf}
+use Rattle.history.specs.Log.{record_at, answer_of, is_crossed, has_ended, IsOpen, IsStepOf}
 use Rattle.history.specs.Legal.{Fits, IsLegal}
 use Rattle.log_laws.proofs.Records.{AStep, IsNumber, at_newest, newest_at, had_at, which, not_newest}
-use Rattle.log_laws.proofs.LegalLogs.{falls, ended_push, answered_push, step_open, begun_number, kept_begun, step_number, ended_cases}
+use Rattle.log_laws.proofs.LegalLogs.{falls, answered_push, step_open, begun_number, kept_begun, step_number, ended_cases}
 
 -- the transaction of a step began before it
 pub txn_below : (log : List Record) (t n : ℕ) → IsLegal log → IsStepOf log t n → t < n
@@ -25,12 +24,7 @@ txn_below (r ∷ log) t n legal step =
 -- what is undone was answered
 crossed_answered_now : (r : Record) (log : List Record) (n : ℕ) → Fits log r → is_crossed (r ∷ log) n ≡ true
     → (is_crossed log n ≡ true → IsSome (answer_of log n)) → IsSome (answer_of log n)
-crossed_answered_now (is.Comp t u x i) log n fits c before =
-    elim (or_cases (n == u) (is_crossed log n) c) [
-      | inl e ↦ ap (λ m. is_some (answer_of log m)) (eqb-true n u e) ∙ ap is_some fits.inverse.answered
-      | inr e ↦ before e
-    ]
-crossed_answered_now _ log n fits c before = before c
+crossed_answered_now r log n fits c h = grind arith
 
 pub crossed_answered : (log : List Record) (n : ℕ) → IsLegal log → is_crossed log n ≡ true → IsSome (answer_of log n)
 crossed_answered [] n legal c = absurd (cc)
@@ -39,8 +33,7 @@ crossed_answered (r ∷ log) n legal c =
 
 pub unanswered_uncrossed : (log : List Record) (n : ℕ) → IsLegal log → is_some (answer_of log n) ≡ false
     → is_crossed log n ≡ false
-unanswered_uncrossed log n legal h =
-    falls (is_crossed log n) (is_some (answer_of log n)) (crossed_answered log n legal) h
+unanswered_uncrossed log n legal h = grind (arith, falls, crossed_answered)
 
 -- who has ended had begun
 pub ended_begun : (log : List Record) (t : ℕ) → IsLegal log → has_ended log t ≡ true → record_at log t ≡ Some is.Begin
@@ -69,7 +62,4 @@ pub open_kept : (r : Record) (log : List Record) (t : ℕ) → IsOpen log t → 
 open_kept r log t h goes_on = record { begun = kept_begun r log t h.begun; goes_on = goes_on }
 
 pub open_had : (r : Record) (log : List Record) (t : ℕ) → IsNumber log t → IsOpen (r ∷ log) t → IsOpen log t
-open_had r log t number h = record {
-  begun = had_at (λ x. x ≡ Some is.Begin) r log t number h.begun;
-  goes_on = falls (has_ended log t) (has_ended (r ∷ log) t) (ended_push t r log) h.goes_on;
-}
+open_had r log t number h = grind arith

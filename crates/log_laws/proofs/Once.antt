@@ -1,5 +1,5 @@
 -- No operation is compensated twice.
-use Rattle.std.proofs.Common.{◌≡◌, ◌∙◌, ℕ, true, List, [], ◌∷◌, Option, Some, refl, sym, subst, inl, inr, true≢false}
+use Rattle.std.proofs.Common.{arith, ◌≡◌, ◌∙◌, ℕ, true, List, [], ◌∷◌, Option, Some, refl, sym, inl, inr}
 use Rattle.std.proofs.lemmas.Bool.{eq-eqb}
 use Rattle.record_key.specs.declared.op.Op.{Op}
 use Rattle.history.specs.declared.record.Record.{Record}
@@ -34,11 +34,7 @@ crosses (r ∷ log) n u h =
 
 -- what was crossed before isn't compensated now
 not_again : (r : Record) (log : List Record) (u : ℕ) → Fits log r → AComp u (Some r) → is_crossed log u ≡ true → ⊥
-not_again r log u fits h crossed =
-    let same : r ≡ is.Comp h.0 u h.1 h.2 = let e = h.3 in cc in
-    let P : Record → Type 0 = λ x. Fits log x in
-    let comp = subst P same fits in
-    true≢false (sym crossed ∙ comp.latest.is.uncrossed)
+not_again r log u fits h crossed = grind arith
 
 pub compensated_once : LegalIsCompensatedOnce
 compensated_once log n m u legal a b = by log n m legal (as_comp log n u a) (as_comp log m u b)

@@ -1,5 +1,5 @@
 -- The plain map of a log's history, and what a key holds of which everything is captured.
-use Rattle.std.proofs.Common.{◌≡◌, ℕ, ◌+◌, Bool, true, false, cond, List, [], ◌∷◌, length, Option, Some, None, is_some, refl, sym, ap, ◌∙◌}
+use Rattle.std.proofs.Common.{arith, ◌≡◌, ℕ, ◌+◌, Bool, true, cond, List, [], ◌∷◌, length, Option, is_some, refl, sym, ap, ◌∙◌}
 use Rattle.std.specs.Prelude.{◌&&◌, not, if◌then◌else◌}
 use Rattle.std.specs.FinMap.{get, get-empty}
 use Rattle.record_key.specs.declared.op.Op.{Op}
@@ -20,20 +20,17 @@ use Rattle.log_laws.proofs.Cancel.{cancel}
 -- what one operation leaves at a key of a table
 on_or_off : (on : Bool) (k : Bytes) (m : Table) (o : Op) (v : Option Bytes) → (on ≡ true → k ≡ key_of o) → get m k ≡ v
     → cond on (value_after o (get m (key_of o))) (get m k) ≡ (if on then value_after o v else v)
-on_or_off true k m o v same e = ap (value_after o) (ap (get m) (sym (same refl)) ∙ e)
-on_or_off false k m o v same e = e
+on_or_off on k m o v same e = grind arith
 
 -- the value at a key after an operation on it or on another
 pub get-after : (k : Bytes) (m : Table) (o : Op) (v : Option Bytes) → get m k ≡ v
     → get (after m o) k ≡ (if is_on k o then value_after o v else v)
-get-after k m o v e = get-with_record m (key_of o) (value_after o (get m (key_of o))) k
-    ∙ on_or_off (is_on k o) k m o v (is_same-true k (key_of o)) e
+get-after k m o v e = grind (arith, get-with_record, on_or_off, is_same-true)
 
 -- an entry leaves its operation's value unless it is crossed
 pub entry_leaves : (crossed : Bool) (k : Bytes) (m : Table) (o : Op) (v : Option Bytes) → get m k ≡ v
     → get (if crossed then m else after m o) k ≡ (if not crossed && is_on k o then value_after o v else v)
-entry_leaves true k m o v e = e
-entry_leaves false k m o v e = get-after k m o v e
+entry_leaves crossed k m o v e = grind (arith, get-after)
 
 -- an operation leaves its value where it is answered and not crossed
 answered_leaves : (whole : List Record) (n t : ℕ) (o : Op) (a : Option Answer) (h : List Entry) (k : Bytes)
@@ -41,17 +38,14 @@ answered_leaves : (whole : List Record) (n t : ℕ) (o : Op) (a : Option Answer)
     → get (plain h) k ≡ v
     → get (plain (entry_with whole n t o a h)) k
     ≡ (if (is_some a && not (is_crossed whole n)) && is_on k o then value_after o v else v)
-answered_leaves whole n t o None h k v e = e
-answered_leaves whole n t o (Some a) h k v e = entry_leaves (is_crossed whole n) k (plain h) o v e
+answered_leaves whole n t o a h k v e = grind (arith, entry_leaves)
 
 -- so does what is left to read of the log
 plain_in : (whole log : List Record) (k : Bytes)
     → get (plain (hist_in whole log)) k
     ≡ value_where k (λ n. is_some (answer_of whole n) && not (is_crossed whole n)) log
 plain_in whole [] k = get-empty key_cmp k
-plain_in whole (is.Op t p o ∷ log) k =
-    answered_leaves whole (length log + 1) t o (answer_of whole (length log + 1)) (hist_in whole log) k
-    (value_where k (λ n. is_some (answer_of whole n) && not (is_crossed whole n)) log) (plain_in whole log k)
+plain_in whole (is.Op t p o ∷ log) k = grind (arith, plain_in whole log k, answered_leaves)
 plain_in whole (r ∷ log) k = plain_in whole log k
 
 -- so does the whole log
@@ -61,28 +55,23 @@ plain_of_history log k = plain_in log log k
 -- what is done at a key, all of it captured, is what the log leaves there
 rest_captured : (cap : ℕ → Bool) (on : Bool) (d : Numbered) (rest : List Numbered)
     → AreCaptured cap (if on then d ∷ rest else rest) → AreCaptured cap rest
-rest_captured cap true d rest h = h.1
-rest_captured cap false d rest h = h
+rest_captured cap on d rest h = grind arith
 
 -- one number more, captured and on the key or elsewhere
 captured_leaves : (cap : ℕ → Bool) (on : Bool) (d : Numbered) (rest : List Numbered) (v : Option Bytes)
     → value_of cap rest ≡ v → AreCaptured cap (if on then d ∷ rest else rest)
     → value_of cap (if on then d ∷ rest else rest) ≡ (if on then value_after d.op v else v)
-captured_leaves cap true d rest v e h =
-    ap (λ b. if b then value_after d.op (value_of cap rest) else value_of cap rest) h.0 ∙ ap (value_after d.op) e
-captured_leaves cap false d rest v e h = e
+captured_leaves cap on d rest v e h = grind arith
 
 -- the same, of what a record has done
 done_rest : (cap : ℕ → Bool) (k : Bytes) (n : ℕ) (o : Option Op) (rest : List Numbered)
     → AreCaptured cap (numbered_with k n o rest) → AreCaptured cap rest
-done_rest cap k n None rest h = h
-done_rest cap k n (Some o) rest h = rest_captured cap (is_on k o) (record { number = n; op = o }) rest h
+done_rest cap k n o rest h = grind arith
 
 done_leaves : (cap : ℕ → Bool) (k : Bytes) (n : ℕ) (o : Option Op) (rest : List Numbered) (v : Option Bytes)
     → value_of cap rest ≡ v → AreCaptured cap (numbered_with k n o rest)
     → value_of cap (numbered_with k n o rest) ≡ value_with k o v
-done_leaves cap k n None rest v e h = e
-done_leaves cap k n (Some o) rest v e h = captured_leaves cap (is_on k o) (record { number = n; op = o }) rest v e h
+done_leaves cap k n o rest v e h = grind arith
 
 -- where all is captured, the captured ones give what the log leaves
 pub value_of-captured : (log : List Record) (k : Bytes) (cap : ℕ → Bool) → AreCaptured cap (numbered_on k log)

@@ -1,5 +1,5 @@
 -- A log as a slice, the oldest first, beside the list that the definitions speak of.
-use Rattle.std.proofs.Common.{◌≡◌, ℕ, zero, suc, ◌+◌, ◌-◌, ◌<◌, ◌≤◌, List, [], ◌∷◌, ◌++◌, length, reverse, take, drop, get_or, Option, Some, None, is_some, IfSome, sym, ap, ◌∙◌, subst, arith, inl, inr, ltb, Bor, take-suc, length-take, take-append-drop}
+use Rattle.std.proofs.Common.{◌≡◌, ℕ, zero, suc, ◌+◌, ◌-◌, ◌<◌, ◌≤◌, List, [], ◌∷◌, ◌++◌, length, reverse, take, drop, get_or, Option, Some, is_some, IfSome, sym, ap, ◌∙◌, subst, arith, inl, inr, ltb, Bor, take-suc, length-take, take-append-drop}
 use Rattle.std.specs.Option.{option_copied}
 use Rattle.std.proofs.lemmas.List.{reverse-append, length-reverse, take_all}
 use Rattle.std.proofs.lemmas.Bool.{cases_eq, ltb-true, ltb-false}
@@ -48,13 +48,7 @@ at_reversed xs i d h = ap (λ x. record_at x (i + 1)) (sym (reverse-take_all xs)
 pub read_at : (xs : List Record) (n : ℕ) (r : Option (Bor Record)) → (n ≡ 0 → ⊥) → is_some r ≡ ltb (n - 1) (length xs)
     → IfSome r (λ x. x.now ≡ get_or xs (n - 1) x.now)
     → option_copied r ≡ record_at (reverse xs) n
-read_at xs n None positive is_in there =
-    let out : length xs ≤ n - 1 = ltb-false (n - 1) (length xs) (sym is_in) in
-    sym (beyond (reverse xs) n (λ h _. omega (arith, length-reverse xs)))
-read_at xs n (Some x) positive is_in there =
-    let e : (n - 1) + 1 ≡ n = omega arith in
-    ap Some there ∙ sym (at_reversed xs (n - 1) x.now (ltb-true (n - 1) (length xs) (sym is_in)))
-    ∙ ap (record_at (reverse xs)) e
+read_at xs n r positive is_in there = grind (arith, ltb-false, beyond, length-reverse, at_reversed, ltb-true)
 
 -- a legal log's record fits those before its place
 pub fits_taken : (xs : List Record) (i : ℕ) (d : Record) → i < length xs → IsLegal (reverse xs)

@@ -29,15 +29,11 @@ both_same t u o q h = let e : Same t o u q = cc in (ap (λ (by : ℕ × Op). by.
 
 -- an operation is a step
 pub op_step : (t : ℕ) (o : Op) (r : Option Record) → AnOp t o r → AStep t r
-op_step t o None h = absurd (cc)
-op_step t o (Some (is.Op t' p' o')) h = ap Some (both_same t' t o' o h).0
-op_step t o (Some _) h = absurd (cc)
+op_step t o r h = grind arith
 
 -- an operation is a request
 pub op_request : (t : ℕ) (o : Op) (r : Option Record) → AnOp t o r → ARequest o r
-op_request t o None h = absurd (cc)
-op_request t o (Some (is.Op t' p' o')) h = ap Some (both_same t' t o' o h).1
-op_request t o (Some _) h = absurd (cc)
+op_request t o r h = grind arith
 
 -- a request is a step of some transaction
 pub request_step : (o : Op) (r : Option Record) → ARequest o r → (t : ℕ) × AStep t r
@@ -63,8 +59,7 @@ no_request o h = cc
 -- the newest number has the newest record
 pub at_newest : (P : Option Record → Type 0) (r : Record) (log : List Record) (n : ℕ) → n ≡ length log + 1 → P (Some r)
     → P (record_at (r ∷ log) n)
-at_newest P r log n e h =
-    subst (λ (b : Bool). P (cond b (Some r) (record_at log n))) (sym (eq-eqb n (length log + 1) e)) h
+at_newest h r log n e h2 = grind arith
 
 pub newest_at : (P : Option Record → Type 0) (r : Record) (log : List Record) (n : ℕ) → n ≡ length log + 1
     → P (record_at (r ∷ log) n) → P (Some r)
@@ -73,8 +68,7 @@ newest_at P r log n e h = subst (λ (b : Bool). P (cond b (Some r) (record_at lo
 -- any other has the record that it had
 pub at_older : (P : Option Record → Type 0) (r : Record) (log : List Record) (n : ℕ) → n ≢ length log + 1
     → P (record_at log n) → P (record_at (r ∷ log) n)
-at_older P r log n e h =
-    subst (λ (b : Bool). P (cond b (Some r) (record_at log n))) (sym (ne_eqb n (length log + 1) e)) h
+at_older h r log n e h2 = grind arith
 
 pub older_at : (P : Option Record → Type 0) (r : Record) (log : List Record) (n : ℕ) → n ≢ length log + 1
     → P (record_at (r ∷ log) n) → P (record_at log n)
@@ -102,11 +96,7 @@ newest_number r log n e = record { positive = omega arith; bounded = omega arith
 
 -- of a longer log, a number is the newest or was there
 pub which : (r : Record) (log : List Record) (n : ℕ) → IsNumber (r ∷ log) n → (n ≡ length log + 1) ⊎ IsNumber log n
-which r log n h = by (cases_eq n (length log + 1))
-  where
-    by : (n ≡ length log + 1) ⊎ (n ≡ length log + 1 → ⊥) → (n ≡ length log + 1) ⊎ IsNumber log n
-    by (inl e) = inl e
-    by (inr e) = inr (record { positive = h.positive; bounded = omega (arith, h.bounded, e) })
+which r log n h = grind arith
 
 -- a number that was there isn't the newest
 pub not_newest : (log : List Record) (n : ℕ) → IsNumber log n → n ≢ length log + 1
@@ -169,10 +159,7 @@ pub until : (P : List Record → Type 0) → P [] → ((r : Record) (log : List 
     → (log : List Record) (n : ℕ) → P log → P (before log n)
 until P none pop [] n h = none
 until P none pop (r ∷ log) n h =
-    elim (cases_eq n (length log + 1)) [
-      | inl e ↦ before_newest P r log n e (pop r log h)
-      | inr e ↦ before_older P r log n e (until P none pop log n (pop r log h))
-    ]
+    grind (arith, until P none pop log n (pop r log h), cases_eq, before_newest, before_older)
 
 -- a number is one more than there are records before it
 pub length_before : (log : List Record) (n : ℕ) → IsNumber log n → n ≡ length (before log n) + 1

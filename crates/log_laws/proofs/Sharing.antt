@@ -1,6 +1,6 @@
 -- When two transactions may hold one key: only for Adds.
-use Rattle.std.proofs.Common.{◌≡◌, ◌≢◌, ◌⊎◌, ℕ, Bool, true, false, List, refl, sym, ap, ◌∙◌, subst, inl, inr, true≢false}
-use Rattle.std.proofs.lemmas.Bool.{cases_Bool, cases_order}
+use Rattle.std.proofs.Common.{arith, ◌≡◌, ◌≢◌, ◌⊎◌, ℕ, true, false, List, refl, sym, ◌∙◌, subst, inl, inr, true≢false}
+use Rattle.std.proofs.lemmas.Bool.{cases_order}
 use Rattle.record_key.specs.declared.op.Op.{Op}
 use Rattle.record_key.specs.Table.{key_of, is_add, AreAdds}
 use Rattle.history.specs.declared.record.Record.{Record}
@@ -14,11 +14,7 @@ use Rattle.log_laws.proofs.Strict.{strict, end_ends}
 
 -- what two operations are held for conflicts unless both are Adds
 pub modes_conflict : (o q : Op) → (do_conflict (mode_of o) (mode_of q) ≡ true) ⊎ AreAdds o q
-modes_conflict o q =
-    elim (cases_Bool (is_add o)) [
-      | inl one ↦ elim (cases_Bool (is_add q)) [ inl other ↦ inr (one, other) | inr other ↦ inl (rw (one, other) refl) ]
-      | inr none ↦ inl (rw none refl)
-    ]
+modes_conflict o q = grind arith
 
 -- and agrees where they are
 pub modes_agree : (o q : Op) → AreAdds o q → do_conflict (mode_of o) (mode_of q) ≡ false

@@ -1,7 +1,7 @@
 -- Compensations come latest first, an open transaction has its keys to itself, and requests on a key come one at a
 -- time, but for Adds.
-use Rattle.std.proofs.Common.{◌≡◌, ◌≢◌, ℕ, ◌+◌, ◌<◌, true, List, [], ◌∷◌, length, Option, Some, None, IsSome, refl, sym, ap, ◌∙◌, subst, arith, inl, inr, ◌⊎◌, true≢false}
-use Rattle.std.proofs.lemmas.Bool.{cases_eq, cases_Bool, cases_order, eq-eqb}
+use Rattle.std.proofs.Common.{rules, ◌≡◌, ◌≢◌, ℕ, ◌+◌, ◌<◌, true, List, [], ◌∷◌, length, Option, Some, None, IsSome, refl, sym, ap, ◌∙◌, subst, arith, inl, inr, ◌⊎◌, true≢false}
+use Rattle.std.proofs.lemmas.Bool.{cases_eq, cases_Bool, cases_order}
 use Rattle.record_key.specs.declared.op.Op.{Op}
 use Rattle.record_key.specs.Table.{key_of, is_add}
 use Rattle.inverse.proofs.Undo.{inverse_key}
@@ -33,13 +33,11 @@ AnEnd t r = (r ≡ Some (is.Commit t)) ⊎ (r ≡ Some (is.End t))
 
 -- no record is no end
 no_end : (t : ℕ) → AnEnd t None → ⊥
-no_end t (inl e) = cc
-no_end t (inr e) = cc
+no_end t h = grind arith
 
 -- a record that is an end is one where it stands
 some_end : (t : ℕ) (r : Record) → (r ≡ is.Commit t) ⊎ (r ≡ is.End t) → AnEnd t (Some r)
-some_end t r (inl e) = inl (ap Some e)
-some_end t r (inr e) = inr (ap Some e)
+some_end t r h = grind arith
 
 -- an end is a number of the log
 pub end_number : (log : List Record) (t n : ℕ) → IsEndOf log t n → IsNumber log n
@@ -47,11 +45,7 @@ end_number log t n h = within (AnEnd t) (no_end t) log n h
 
 -- and stays one in a longer log
 kept_end : (r : Record) (log : List Record) (t n : ℕ) → EndsAfter log t n → EndsAfter (r ∷ log) t n
-kept_end r log t n h = record {
-  end = h.end;
-  is_end = kept_at (AnEnd t) r log h.end (end_number log t h.end h.is_end) h.is_end;
-  after = h.after;
-}
+kept_end r log t n h = search (rules, arith, kept_at (AnEnd t) r log h.end (end_number log t h.end h.is_end) h.is_end)
 
 -- a transaction that has a step and has ended did so after the step
 pub ended_after : (log : List Record) (t n : ℕ) → IsLegal log → IsStepOf log t n → has_ended log t ≡ true
@@ -76,8 +70,7 @@ ended_after (r ∷ log) t n h s ended =
 
 -- an end of a transaction ends it
 is_end_ends : (t : ℕ) (r : Record) (log : List Record) → AnEnd t (Some r) → has_ended (r ∷ log) t ≡ true
-is_end_ends t r log (inl e) = let same : r ≡ is.Commit t = cc in rw (same, eq-eqb t t refl) refl
-is_end_ends t r log (inr e) = let same : r ≡ is.End t = cc in rw (same, eq-eqb t t refl) refl
+is_end_ends t r log h = grind arith
 
 -- so it does from its number on
 pub end_ends : (log : List Record) (t n : ℕ) → IsEndOf log t n → has_ended log t ≡ true
@@ -91,32 +84,18 @@ end_ends (r ∷ log) t n h =
 -- what lies between two numbers does so in a longer log
 longer_between : (r : Record) (log : List Record) (t n m : ℕ) → EndsBetween log t n m → EndsBetween (r ∷ log) t n m
 longer_between r log t n m h =
-    record {
-      end = h.end;
-      is = kept_at (AnEnd t) r log h.end (end_number log t h.end h.is) h.is;
-      after = h.after;
-      before = h.before;
-    }
+    search (rules, arith, kept_at (AnEnd t) r log h.end (end_number log t h.end h.is) h.is)
 
 -- the transaction of an older operation is open or ended since
 open_or_ended : (log : List Record) (t n : ℕ) → IsLegal log → IsStepOf log t n → IsOpen log t ⊎ EndsAfter log t n
-open_or_ended log t n h s =
-    elim (cases_Bool (has_ended log t)) [
-      | inl ended ↦ inr (ended_after log t n h s ended)
-      | inr goes_on ↦ inl (record { begun = begun log t n h s; goes_on = goes_on })
-    ]
+open_or_ended log t n h s = grind (arith, cases_Bool, ended_after, begun)
 
 -- what lies after a number lies between it and the newest
 between_newest : (r : Record) (log : List Record) (t n m : ℕ) → m ≡ length log + 1 → EndsAfter log t n
     → EndsBetween (r ∷ log) t n m
 between_newest r log t n m e h =
     let is_number : IsNumber log h.end = end_number log t h.end h.is_end in
-    record {
-      end = h.end;
-      is = kept_at (AnEnd t) r log h.end is_number h.is_end;
-      after = h.after;
-      before = omega (arith, is_number.bounded);
-    }
+    search (rules, arith)
 
 -- an operation that is an Add, and a record that does or undoes one
 abbrev AddsToo : Op → List Record → Record → Type 0
@@ -129,15 +108,7 @@ StrictAt r log = (n t u : ℕ) (o q : Op) → IsOpBy log n t o → AStep u (Some
 
 -- an Op needs a free key; a Comp is on the key of its own operation, which is strict towards the other
 strict_at : (r : Record) (log : List Record) → Fits log r → IsLegal log → IsStrict log → StrictAt r log
-strict_at (is.Op v p q') log fits legal strict n t u o q is_op s asks same other =
-    elim (open_or_ended log t n legal (op_step t o (record_at log n) is_op)) [
-      | inl goes_on ↦
-          let one : v ≡ u = cc in
-          let ask : q' ≡ q = cc in
-          elim (fits.free n t o is_op (sym same ∙ ap key_of (sym ask)) goes_on)
-          [ inl mine ↦ absurd (other (sym (mine ∙ one))) | inr both ↦ inl (both.1, both.0) ]
-      | inr ended ↦ inr ended
-    ]
+strict_at (is.Op v p q') log fits legal strict n t u o q is_op s asks same other = grind (arith, open_or_ended, op_step)
 strict_at (is.Comp v w x i) log fits legal strict n t u o q is_op s asks same other =
     let undone = fits.inverse in
     let one : v ≡ u = cc in
@@ -201,8 +172,7 @@ chained_and_strict log h = (well_chained log h, strict log h)
 
 -- at a Commit or End the transaction is idle
 end_idle : (r : Record) (log : List Record) (t : ℕ) → Fits log r → (r ≡ is.Commit t) ⊎ (r ≡ is.End t) → IsIdle log t
-end_idle r log t fits (inl e) = (subst (Fits log) e fits).idle
-end_idle r log t fits (inr e) = (subst (Fits log) e fits).idle
+end_idle r log t fits h = grind arith
 
 -- an operation on the key of a step's request, of the same transaction: its own, or the one that it undoes
 record OnKey (log : List Record) (t n : ℕ) (o : Op) : Type 0 where
@@ -215,13 +185,7 @@ record OnKey (log : List Record) (t n : ℕ) (o : Op) : Type 0 where
 -- it stays in a longer log
 kept_key : (r : Record) (log : List Record) (t n : ℕ) (o : Op) → IsNumber log n → OnKey log t n o
     → OnKey (r ∷ log) t n o
-kept_key r log t n o number h = record {
-  number = h.number;
-  op = h.op;
-  is_op = kept_at (AnOp t h.op) r log h.number (op_number log h.number t h.op h.is_op) h.is_op;
-  same_key = h.same_key;
-  adds = adds_kept r log n number ∙ h.adds;
-}
+kept_key r log t n o number h = grind (arith, kept_at, op_number, adds_kept)
 
 -- at the newest record
 on_key_newest : (r : Record) (log : List Record) (t n : ℕ) (o : Op) → n ≡ length log + 1 → Fits log r

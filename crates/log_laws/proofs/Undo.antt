@@ -1,23 +1,22 @@
 -- What a transaction has left to undo: what stands at a number stands as long as a later one does, and two looks find
 -- it.
-use Rattle.std.proofs.Common.{◌≡◌, ◌≢◌, ℕ, ◌+◌, ◌<◌, ◌≤◌, true, List, [], ◌∷◌, length, Option, Some, None, refl, sym, ap, ◌∙◌, subst, arith, inl, inr, eqb-true, true≢false, eq-eqb, ne_eqb}
-use Rattle.std.specs.Prelude.{◌||◌, ◌==◌}
-use Rattle.std.proofs.lemmas.Bool.{cases_eq, cases_Bool, or_cases}
+use Rattle.std.proofs.Common.{◌≡◌, ◌≢◌, ℕ, ◌+◌, ◌<◌, ◌≤◌, true, List, [], ◌∷◌, length, Option, Some, refl, sym, ap, ◌∙◌, subst, arith, inl, inr, true≢false, eq-eqb, ne_eqb}
+use Rattle.std.specs.Prelude.{◌||◌}
+use Rattle.std.proofs.lemmas.Bool.{cases_eq, cases_Bool}
 use Rattle.record_key.specs.declared.op.Op.{Op}
 use Rattle.history.specs.declared.record.Record.{Record}
 use Rattle.history.specs.declared.record.Record.TheVariants as is
-use Rattle.history.specs.Log.{record_at, before, is_crossed, IsStepOf, IsOpBy}
+use Rattle.history.specs.Log.{record_at, before, is_crossed, IsStepOf}
 use Rattle.history.specs.Legal.{Fits, FitsOp, IsLegal, Stands, IsLatest, IsLatestOrNone}
 use Rattle.history.specs.Chains.{undo_from, prev_in}
 use Rattle.log_laws.specs.Laws.{UndoIsFound}
-use Rattle.log_laws.proofs.Records.{AStep, AnOp, op_same, at_newest, newest_at, older_at, kept_at, IsNumber, which, not_newest, before_new, before_old, since, length_before, record_before, record_old}
+use Rattle.log_laws.proofs.Records.{AStep, AnOp, at_newest, newest_at, kept_at, IsNumber, which, not_newest, before_new, before_old, since, length_before, record_before, record_old}
 use Rattle.log_laws.proofs.LegalLogs.{legal_before, fits_at, falls, crossed_push, uncrossed_next, step_number, stands_step, stands_number, stands_kept, stands_had}
 
 -- the greatest number of one kind is that of another that has the same numbers
 pub latest_as : (P Q : ℕ → Type 0) → ((n : ℕ) → P n → Q n) → ((n : ℕ) → Q n → P n) → (x : ℕ) → IsLatestOrNone P x
     → IsLatestOrNone Q x
-latest_as P Q there back x (inl h) = inl (record { is = there x h.is; greatest = λ m q. h.greatest m (back m q) })
-latest_as P Q there back x (inr h) = inr (h.0, λ m q. h.1 m (back m q))
+latest_as h h2 there back x h3 = grind arith
 
 -- a record that names a standing operation is a compensation of its transaction, and it is the latest
 pub record CrossesNow (r : Record) (log : List Record) (t n : ℕ) : Type 0 where
@@ -27,33 +26,17 @@ pub record CrossesNow (r : Record) (log : List Record) (t n : ℕ) : Type 0 wher
 -- so it is, where the record fits
 pub crosses_now : (r : Record) (log : List Record) (t n : ℕ) → Fits log r → Stands log t n
     → is_crossed (r ∷ log) n ≡ true → CrossesNow r log t n
-crosses_now (is.Comp v w x i) log t n fits h c =
-    elim (or_cases (n == w) (is_crossed log n) c) [
-      | inl e ↦
-          let same : n ≡ w = eqb-true n w e in
-          let there : IsOpBy log n v fits.latest.is.op =
-          subst (λ (z : ℕ). IsOpBy log z v fits.latest.is.op) (sym same) fits.latest.is.is in
-          let one : v ≡ t = (op_same v t fits.latest.is.op h.op (record_at log n) there h.is).0 in
-          record {
-            latest = subst (λ (z : ℕ). IsLatest (Stands log t) z) (sym same)
-                (subst (λ (z : ℕ). IsLatest (Stands log z) w) one fits.latest);
-            step = ap Some one;
-          }
-      | inr e ↦ absurd (true≢false (sym e ∙ h.uncrossed))
-    ]
-crosses_now _ log t n fits h c = absurd (true≢false (sym c ∙ h.uncrossed))
+crosses_now r log t n fits h c = grind arith
 
 -- an operation names none
 op_crosses_none : (r : Record) (log : List Record) (t n : ℕ) (o : Op) → AnOp t o (Some r)
     → is_crossed (r ∷ log) n ≡ is_crossed log n
-op_crosses_none (is.Op u p q) log t n o h = refl
-op_crosses_none _ log t n o h = absurd (cc)
+op_crosses_none r log t n o h = grind arith
 
 -- what stood before a standing operation of its transaction stands still
 pub stands_since : (log : List Record) (t u n : ℕ) → IsLegal log → Stands log t u → n < u → Stands (before log u) t n
     → Stands log t n
-stands_since [] t u n legal h below stood =
-    absurd (omega (arith, (stands_number [] t u h).positive, (stands_number [] t u h).bounded))
+stands_since [] t u n legal h below stood = grind (arith, stands_number)
 stands_since (r ∷ log) t u n legal h below stood =
     elim (which r log u (stands_number (r ∷ log) t u h)) [
       | inl e ↦
@@ -96,14 +79,12 @@ LatestIsFound log t = (s : ℕ) → IsLatestOrNone (IsStepOf log t) s
 
 -- the latest step, or 0, is at most the length
 pub latest_number : (log : List Record) (t s : ℕ) → IsLatestOrNone (IsStepOf log t) s → s ≤ length log
-latest_number log t s (inl h) = (step_number log s t h.is).bounded
-latest_number log t s (inr h) = omega (arith, h.0)
+latest_number log t s h = grind (arith, step_number)
 
 -- the newest record is no step of the transaction: its steps are as they were
 module _ (r : Record) (log : List Record) (t : ℕ) (other : AStep t (Some r) → ⊥) where
   pub steps_there : (n : ℕ) → IsStepOf (r ∷ log) t n → IsStepOf log t n
-  steps_there n h = elim (cases_eq n (length log + 1))
-      [ inl e ↦ absurd (other (newest_at (AStep t) r log n e h)) | inr e ↦ older_at (AStep t) r log n e h ]
+  steps_there n h = grind arith
 
   pub steps_back : (n : ℕ) → IsStepOf log t n → IsStepOf (r ∷ log) t n
   steps_back n h = kept_at (AStep t) r log n (step_number log n t h) h
@@ -111,13 +92,10 @@ module _ (r : Record) (log : List Record) (t : ℕ) (other : AStep t (Some r) �
 -- and so is what stands
 module _ (r : Record) (log : List Record) (t : ℕ) (other : AStep t (Some r) → ⊥) (fits : Fits log r) where
   pub stands_there : (n : ℕ) → Stands log t n → Stands (r ∷ log) t n
-  stands_there n h =
-      elim (cases_Bool (is_crossed (r ∷ log) n))
-      [ inl c ↦ absurd (other (crosses_now r log t n fits h c).step) | inr c ↦ stands_kept r log t n h c ]
+  stands_there n h = grind (arith, cases_Bool, crosses_now, stands_kept)
 
   pub stands_back : (n : ℕ) → Stands (r ∷ log) t n → Stands log t n
-  stands_back n h = stands_had r log t n
-      (step_number log n t (steps_there r log t other n (stands_step (r ∷ log) t n h))) h
+  stands_back n h = grind arith
 
   -- so what is left is found as it was
   found_older : LatestIsFound log t → LatestIsFound (r ∷ log) t
@@ -159,9 +137,7 @@ found_op log t p o legal s h =
 -- after a compensation, what stood below the operation that it names
 left_there : (log : List Record) (t w x : ℕ) (i : Option Op) (n : ℕ) → Stands log t n × (n < w)
     → Stands (is.Comp t w x i ∷ log) t n
-left_there log t w x i n h =
-    stands_kept (is.Comp t w x i) log t n h.0
-    (ap (λ b. b || is_crossed log n) (ne_eqb n w (λ e. omega (arith, e, h.1))) ∙ h.0.uncrossed)
+left_there log t w x i n h = grind (arith, stands_kept, ne_eqb)
 
 left_back : (log : List Record) (t w x : ℕ) (i : Option Op) → IsLatest (Stands log t) w → (n : ℕ)
     → Stands (is.Comp t w x i ∷ log) t n → Stands log t n × (n < w)
@@ -202,18 +178,13 @@ found_next r log t fits legal found = found_older r log t (λ s. cc) fits found
 
 -- and in every legal log
 pub latest_found : (log : List Record) (t : ℕ) → IsLegal log → LatestIsFound log t
-latest_found [] t legal s (inl h) =
-    absurd (omega (arith, (step_number [] s t h.is).positive, (step_number [] s t h.is).bounded))
+latest_found [] t legal s (inl h) = grind (arith, step_number)
 latest_found [] t legal s (inr h) = inr (refl, λ m stands. h.1 m (stands_step [] t m stands))
 latest_found (r ∷ log) t legal s h = found_next r log t legal.0 legal.1 (latest_found log t legal.1) s h
 
 -- the record of an operation
 pub op_record : (t : ℕ) (o : Op) (r : Option Record) → AnOp t o r → (p : ℕ) × (r ≡ Some (is.Op t p o))
-op_record t o None h = absurd (cc)
-op_record t o (Some (is.Op u p q)) h =
-    let same = op_same u t q o (Some (is.Op u p q)) refl h in
-    (p, rw (same.0, same.1) refl)
-op_record t o (Some _) h = absurd (cc)
+op_record t o r h = grind arith
 
 -- before a standing operation that same look finds what is left below it
 pub earlier_found : (log : List Record) (t u : ℕ) → IsLegal log → Stands log t u

@@ -1,13 +1,12 @@
 -- What a log leaves at a key: by which numbers, split at an operation, and the answers that it gives.
-use Rattle.std.proofs.Common.{◌≡◌, ◌≢◌, ◌⊎◌, ℕ, ◌+◌, ◌<◌, ◌≤◌, Bool, true, false, cond, List, [], ◌∷◌, length, Option, Some, None, is_some, refl, sym, ap, ◌∙◌, subst, arith, inl, inr, true≢false, eq-eqb, ne_eqb}
+use Rattle.std.proofs.Common.{◌≡◌, ◌≢◌, ◌⊎◌, ℕ, ◌+◌, ◌<◌, ◌≤◌, Bool, true, false, List, [], ◌∷◌, length, Option, Some, None, is_some, refl, sym, ap, ◌∙◌, subst, arith, inl, inr, true≢false}
 use Rattle.std.specs.Prelude.{◌&&◌, if◌then◌else◌}
-use Rattle.std.proofs.lemmas.Bool.{cases_eq, cases_Bool}
+use Rattle.std.proofs.lemmas.Bool.{cases_Bool}
 use Rattle.record_key.specs.declared.op.Op.{Op}
 use Rattle.record_key.specs.declared.op.Answer.{Answer}
 use Rattle.record_key.specs.Table.{Bytes, key_of, is_add, AreAdds, answer_at, value_after}
 use Rattle.record_key.proofs.Adds.{adds_commute, SeenAlike, seen_after, seen_left, seen_right, answered_alike}
 use Rattle.history.specs.declared.record.Record.{Record}
-use Rattle.history.specs.declared.record.Record.TheVariants as is
 use Rattle.history.specs.Log.{before, answer_of, op_of, IsOpBy}
 use Rattle.history.specs.Legal.{IsLegal}
 use Rattle.history.specs.Values.{is_on, value_on, value_kept, value_where, IsRight, HasRightAnswers}
@@ -17,13 +16,7 @@ use Rattle.log_laws.proofs.LegalLogs.{op_number, request_number, unanswered_next
 -- an operation that both tests let through, or neither
 chosen : (on p q : Bool) (o : Op) (v w : Option Bytes) → (on ≡ true → p ≡ q) → v ≡ w
     → (if p && on then value_after o v else v) ≡ (if q && on then value_after o w else w)
-chosen true p q o v w same e =
-    ap (λ b. if b && true then value_after o v else v) (same refl)
-    ∙ ap (λ x. if q && true then value_after o x else x) e
-chosen false true true o v w same e = e
-chosen false true false o v w same e = e
-chosen false false true o v w same e = e
-chosen false false false o v w same e = e
+chosen on p q o v w same e = grind arith
 
 -- of what a record has kept
 kept_alike : (k : Bytes) (n : ℕ) (p q : ℕ → Bool) (by : Option (ℕ × Op)) (v w : Option Bytes)
@@ -44,9 +37,7 @@ values_alike k p q (r ∷ log) same =
 -- an operation that the test leaves out
 left_out : (on p : Bool) (o : Op) (v : Option Bytes) → (on ≡ true → p ≡ false)
     → (if p && on then value_after o v else v) ≡ v
-left_out on false o v none = refl
-left_out false true o v none = refl
-left_out true true o v none = absurd (true≢false (none refl))
+left_out on p o v none = grind arith
 
 kept_none : (k : Bytes) (n : ℕ) (p : ℕ → Bool) (by : Option (ℕ × Op)) (v : Option Bytes)
     → ((t : ℕ) (o : Op) → by ≡ Some (t, o) → is_on k o ≡ true → p n ≡ false) → value_kept k n p by v ≡ v
@@ -82,10 +73,7 @@ value_split k p (r ∷ log) u t o is none =
 passed : (on p : Bool) (o q : Op) (v w : Option Bytes) → (p ≡ true → on ≡ true → AreAdds o q)
     → v ≡ value_after o w
     → (if p && on then value_after q v else v) ≡ value_after o (if p && on then value_after q w else w)
-passed true true o q v w both e = ap (value_after q) e ∙ sym (adds_commute.value o q w (both refl refl))
-passed false true o q v w both e = e
-passed true false o q v w both e = e
-passed false false o q v w both e = e
+passed on p o q v w both e = grind (arith, adds_commute.value)
 
 kept_past : (k : Bytes) (n : ℕ) (p : ℕ → Bool) (by : Option (ℕ × Op)) (o : Op) (v w : Option Bytes)
     → ((t : ℕ) (q : Op) → by ≡ Some (t, q) → is_on k q ≡ true → p n ≡ true → AreAdds o q) → v ≡ value_after o w
@@ -134,10 +122,7 @@ value_last k p q (r ∷ log) u t o is on here gone same above =
 -- and an operation is answered as before those that commute with it
 answer_past : (on p : Bool) (o q : Op) (v : Option Bytes) → (p ≡ true → on ≡ true → AreAdds o q)
     → answer_at o (if p && on then value_after q v else v) ≡ answer_at o v
-answer_past true true o q v both = adds_commute.answer o q v (both refl refl)
-answer_past false true o q v both = refl
-answer_past true false o q v both = refl
-answer_past false false o q v both = refl
+answer_past on p o q v both = grind (arith, adds_commute.answer)
 
 answer_kept : (k : Bytes) (n : ℕ) (p : ℕ → Bool) (by : Option (ℕ × Op)) (o : Op) (v : Option Bytes)
     → ((t : ℕ) (q : Op) → by ≡ Some (t, q) → is_on k q ≡ true → p n ≡ true → AreAdds o q)
@@ -167,16 +152,7 @@ answer_below k p (r ∷ log) u o number above =
 seen_chosen : (on p q : Bool) (o : Op) (v w : Option Bytes) → (on ≡ true → (p ≡ q) ⊎ (is_add o ≡ true))
     → SeenAlike v w
     → SeenAlike (if p && on then value_after o v else v) (if q && on then value_after o w else w)
-seen_chosen true true true o v w same h = seen_after o v w h
-seen_chosen true false false o v w same h = h
-seen_chosen true true false o v w same h =
-    elim (same refl) [ inl e ↦ absurd (true≢false e) | inr add ↦ seen_left o v w add h ]
-seen_chosen true false true o v w same h =
-    elim (same refl) [ inl e ↦ absurd (true≢false (sym e)) | inr add ↦ seen_right o v w add h ]
-seen_chosen false true true o v w same h = h
-seen_chosen false true false o v w same h = h
-seen_chosen false false true o v w same h = h
-seen_chosen false false false o v w same h = h
+seen_chosen on p q o v w same h = grind (arith, seen_after, true≢false, seen_left, seen_right)
 
 seen_kept : (k : Bytes) (n : ℕ) (p q : ℕ → Bool) (by : Option (ℕ × Op)) (v w : Option Bytes)
     → ((t : ℕ) (o : Op) → by ≡ Some (t, o) → is_on k o ≡ true → (p n ≡ q n) ⊎ (is_add o ≡ true)) → SeenAlike v w
@@ -209,24 +185,13 @@ answers_alike k p q log o same =
 -- a request is no answer
 request_answers_none : (o : Op) (r : Record) (log : List Record) (n : ℕ) → ARequest o (Some r)
     → answer_of (r ∷ log) n ≡ answer_of log n
-request_answers_none o (is.Op t p q) log n h = refl
-request_answers_none o (is.Comp t u x i) log n h = refl
-request_answers_none o _ log n h = absurd (cc)
+request_answers_none o r log n h = grind arith
 
 -- an answer that is the newest record, or was there
 right_now : (r : Record) (log : List Record) (n : ℕ) (a : Answer) → HasRightAnswers (r ∷ log)
     → answer_of (r ∷ log) n ≡ Some a
     → (answer_of log n ≡ Some a → IsRight log n a) → IsRight log n a
-right_now (is.Answer m b) log n a right answered before =
-    elim (cases_eq n m) [
-      | inl e ↦
-          let same : Some b ≡ Some a =
-          subst (λ (c : Bool). cond c (Some b) (answer_of log n) ≡ Some a) (eq-eqb n m e) answered in
-          let equal : b ≡ a = cc in
-          subst (IsRight log n) equal (subst (λ (z : ℕ). IsRight log z b) (sym e) right.0)
-      | inr e ↦ before (subst (λ (c : Bool). cond c (Some b) (answer_of log n) ≡ Some a) (ne_eqb n m e) answered)
-    ]
-right_now _ log n a right answered before = before answered
+right_now r log n a right answered h = grind arith
 
 -- where the answers of a legal log are right, so is each answer that it has
 pub right_at : (log : List Record) (n : ℕ) (a : Answer) → IsLegal log → HasRightAnswers log → answer_of log n ≡ Some a

@@ -1,8 +1,8 @@
 -- What the answered requests of a log leave at a key, where only operations wait for their answers.
-use Rattle.std.proofs.Common.{◌≡◌, ◌≢◌, ◌⊎◌, ℕ, ◌+◌, ◌<◌, ◌≤◌, Bool, true, false, List, [], ◌∷◌, length, Option, Some, None, IsSome, is_some, refl, sym, ap, ◌∙◌, subst, arith, inl, inr, true≢false, eq-eqb, ne_eqb}
+use Rattle.std.proofs.lemmas.Bool.Decides.{nat_tests}
+use Rattle.std.proofs.Common.{◌≡◌, ◌≢◌, ◌⊎◌, ℕ, ◌+◌, ◌<◌, ◌≤◌, Bool, true, false, List, [], ◌∷◌, length, Option, Some, None, IsSome, is_some, refl, sym, ap, ◌∙◌, subst, arith, inl, inr, true≢false, eq-eqb}
 use Rattle.std.specs.Prelude.{◌&&◌, ◌||◌, ◌==◌, not, if◌then◌else◌}
-use Rattle.std.specs.FinMap.{get}
-use Rattle.std.proofs.lemmas.Bool.{cases_eq, cases_Bool, and_parts}
+use Rattle.std.proofs.lemmas.Bool.{cases_Bool, and_parts}
 use Rattle.record_key.specs.declared.op.Op.{Op}
 use Rattle.record_key.specs.Table.{Bytes, key_of, AreAdds, answer_at, value_after}
 use Rattle.record_key.proofs.Tables.{is_same-refl, is_same-true}
@@ -10,14 +10,13 @@ use Rattle.inverse.specs.Inverse.{inverse_of}
 use Rattle.inverse.proofs.Undo.{Outcome, outcome}
 use Rattle.history.specs.declared.record.Record.{Record}
 use Rattle.history.specs.declared.record.Record.TheVariants as is
-use Rattle.history.specs.History.{plain}
-use Rattle.history.specs.Log.{record_at, before, answer_of, is_crossed, Requests, IsOpBy, hist}
+use Rattle.history.specs.Log.{record_at, before, answer_of, is_crossed, Requests, IsOpBy}
 use Rattle.history.specs.Legal.{Fits, FitsComp, IsLegal}
 use Rattle.history.specs.Chains.{BothAdd}
 use Rattle.history.specs.Values.{is_on, value_with, value_on, value_where, HasRightAnswers}
 use Rattle.history.specs.Honest.{Numbered, numbered_with, numbered_on, value_of}
 use Rattle.log_laws.specs.Laws.{OnlyOperationsWait, AnsweredIsPlain}
-use Rattle.log_laws.proofs.Records.{AnOp, ARequest, AStep, op_step, op_request, op_same, IsNumber, kept_at, within, at_newest, since, record_before}
+use Rattle.log_laws.proofs.Records.{AnOp, ARequest, op_request, op_same, IsNumber, kept_at, within, at_newest, since, record_before}
 use Rattle.log_laws.proofs.LegalLogs.{uncrossed_next, right_rest, legal_before, right_before, crossed_push, answered_push, op_number, request_number}
 use Rattle.log_laws.proofs.Adding.{adds_kept, op_adds}
 use Rattle.log_laws.proofs.Strict.{one_at_a_time}
@@ -54,26 +53,12 @@ rest_counts cap r log h = record {
 -- a request that counts, and an operation that counts or doesn't
 counted_request : (cap : ℕ → Bool) (k : Bytes) (n : ℕ) (i : Option Op) (rest : List Numbered) → cap n ≡ true
     → value_of cap (numbered_with k n i rest) ≡ value_with k i (value_of cap rest)
-counted_request cap k n None rest counts = refl
-counted_request cap k n (Some o) rest counts =
-    pick (is_on k o)
-  where
-    pick : (b : Bool) → value_of cap (if b then record { number = n; op = o } ∷ rest else rest)
-        ≡ (if b then value_after o (value_of cap rest) else value_of cap rest)
-    pick true = ap (λ b. if b then value_after o (value_of cap rest) else value_of cap rest) counts
-    pick false = refl
+counted_request cap k n i rest counts = grind arith
 
 counted_op : (cap : ℕ → Bool) (k : Bytes) (n : ℕ) (o : Op) (rest : List Numbered)
     → value_of cap (numbered_with k n (Some o) rest)
     ≡ (if cap n && is_on k o then value_after o (value_of cap rest) else value_of cap rest)
-counted_op cap k n o rest = pick (is_on k o) (cap n) refl
-  where
-    pick : (b c : Bool) → cap n ≡ c → value_of cap (if b then record { number = n; op = o } ∷ rest else rest)
-        ≡ (if c && b then value_after o (value_of cap rest) else value_of cap rest)
-    pick true true e = ap (λ b. if b then value_after o (value_of cap rest) else value_of cap rest) e
-    pick true false e = ap (λ b. if b then value_after o (value_of cap rest) else value_of cap rest) e
-    pick false true e = refl
-    pick false false e = refl
+counted_op cap k n o rest = grind arith
 
 -- a compensation among requests that count
 module _ (cap : ℕ → Bool) (log : List Record) (t u x : ℕ) (i : Option Op) (legal : IsLegal log)
@@ -159,11 +144,7 @@ module _ (cap : ℕ → Bool) (log : List Record) (t u x : ℕ) (i : Option Op) 
 
   elsewhere_left : (k : Bytes) → is_on k o ≡ false
       → value_with k i (value_where k standing log) ≡ value_where k left log
-  elsewhere_left k off =
-      elsewhere k o fits.inverse.answer i (value_where k standing log) off fits.inverse.inverse
-      ∙ values_alike k standing left log (λ n v q by on. left_alike n (λ e.
-      let there : IsOpBy log u v q = subst (λ (z : ℕ). IsOpBy log z v q) e by in
-      true≢false (sym on ∙ ap (is_on k) (op_same v t q o (record_at log u) there is_op).1 ∙ off)))
+  elsewhere_left k off = grind (arith, nat_tests, elsewhere, values_alike, left_alike, true≢false, op_same, is_op)
 
   pub comp_left : (k : Bytes) → value_with k i (value_where k standing log) ≡ value_where k left log
   comp_left k =
@@ -180,17 +161,7 @@ leaves_next : (cap : ℕ → Bool) (r : Record) (log : List Record) → Fits log
     → ((k : Bytes) → value_of cap (numbered_on k log) ≡ value_where k (λ n. cap n && not (is_crossed log n)) log)
     → (k : Bytes) → value_of cap (numbered_on k (r ∷ log))
     ≡ value_where k (λ n. cap n && not (is_crossed (r ∷ log) n)) (r ∷ log)
-leaves_next cap (is.Op t p o) log fits legal right counts rest k =
-    let top : ℕ = length log + 1 in
-    let v : Option Bytes = value_where k (λ n. cap n && not (is_crossed log n)) log in
-    counted_op cap k top o (numbered_on k log)
-    ∙ ap (λ w. if cap top && is_on k o then value_after o w else w) (rest k)
-    ∙ ap (λ b. if b && is_on k o then value_after o v else v)
-    (sym (ap (λ b. cap top && not b) (uncrossed_next log legal) ∙ and_true (cap top)))
-  where
-    and_true : (b : Bool) → (b && true) ≡ b
-    and_true true = refl
-    and_true false = refl
+leaves_next cap (is.Op t p o) log fits legal right counts rest k = grind (arith, counted_op, uncrossed_next)
 leaves_next cap (is.Comp t u x None) log fits legal right counts rest k =
     rest k ∙ comp_left cap log t u x None legal fits right (rest_counts cap (is.Comp t u x None) log counts)
     (counts.crossed u (ap (λ b. b || is_crossed log u) (eq-eqb u u refl))) k
@@ -223,6 +194,4 @@ answered_count log legal wait = record {
 }
 
 pub answered_is_plain : AnsweredIsPlain
-answered_is_plain log legal right wait k =
-    counted_left (λ n. is_some (answer_of log n)) log legal right (answered_count log legal wait) k
-    ∙ sym (plain_of_history log k)
+answered_is_plain log legal right wait k = grind (arith, counted_left, answered_count, plain_of_history)

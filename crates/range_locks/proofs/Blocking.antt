@@ -1,5 +1,5 @@
 -- Whose locks stand in a take's way.
-use Rattle.std.proofs.Common.{◌≡◌, ◌≢◌, ℕ, suc, ◌==◌, ◌&&◌, ◌||◌, Bool, true, false, cond, List, [], ◌∷◌, Option, Some, None, refl, sym, ap, ◌∙◌, subst, inl, inr, true≢false, map, reverse, arith, ne_eqb}
+use Rattle.std.proofs.Common.{◌≡◌, ◌≢◌, ℕ, suc, ◌==◌, ◌&&◌, ◌||◌, Bool, true, false, cond, List, [], ◌∷◌, Option, Some, None, refl, sym, ap, ◌∙◌, subst, inl, inr, true≢false, map, reverse, arith}
 use Rattle.std.specs.Prelude.{not, IfNone, IfSome}
 use Rattle.std.specs.Global.{Vec}
 use Rattle.std.specs.BTreeMap.{get, is_at}
@@ -20,10 +20,7 @@ use Rattle.range_locks.proofs.Leaving.{read}
 use Rattle.range_locks.proofs.Least.{least_found}
 
 last_first : (a b : Bool) → (a || (b || false)) ≡ (b || a)
-last_first true true = refl
-last_first true false = refl
-last_first false true = refl
-last_first false false = refl
+last_first a b = grind arith
 
 any_reversed : {X : Type 0} (p : X → Bool) (xs : List X) → list_any p (reverse xs) ≡ list_any p xs
 any_reversed p [] = refl
@@ -46,24 +43,17 @@ StandsInWay h t lock u = (u ≢ t) × AnyConflict (span_of lock) (spans_of (seen
 
 pub way_from_locks : (h : Held) (t : ℕ) (lock : Lock) (u : ℕ) → u ≢ t
     → list_any (clashes_with lock) (locks_in h u) ≡ true → StandsInWay h t lock u
-way_from_locks h t lock u other any = (
-  other,
-  subst (AnyConflict (span_of lock)) (sym (read h u))
-      (conflicts_from_clashes (span_of lock) _ (any_newest lock (locks_in h u) ∙ any)),
-)
+way_from_locks h t lock u other any = grind (arith, read, conflicts_from_clashes, any_newest)
 
 pub locks_from_way : (h : Held) (t : ℕ) (lock : Lock) (u : ℕ) → StandsInWay h t lock u
     → list_any (clashes_with lock) (locks_in h u) ≡ true
-locks_from_way h t lock u way =
-    sym (any_newest lock (locks_in h u))
-    ∙ clashes_from_conflicts (span_of lock) _ (subst (AnyConflict (span_of lock)) (read h u) way.1)
+locks_from_way h t lock u way = grind (arith, any_newest, clashes_from_conflicts, read)
 
 pub other_number : (u t : ℕ) → not (u == t) ≡ true → u ≢ t
 other_number u t h same = grind (arith, nat_tests)
 
 pub both_true : (a b : Bool) → (a && b) ≡ true → (a ≡ true) × (b ≡ true)
-both_true true b h = (refl, h)
-both_true false b h = absurd (true≢false (sym h))
+both_true a b h = grind arith
 
 same_number : (u k : ℕ) → is_eq (nat_cmp u k) ≡ true → u ≡ k
 same_number u k h = grind (arith, nat_tests)
@@ -92,10 +82,7 @@ module _ (h : Held) (t : ℕ) (lock : Lock) where
       → list_any (clashes_with lock) (items_of (cond b (Some e.1) o)) ≡ true
       → (list_any (clashes_with lock) (items_of o) ≡ true → Passes (λ (e : ℕ × Vec Lock). e.0) (blocks t lock) es u)
       → Passes (λ (e : ℕ × Vec Lock). e.0) (blocks t lock) (e ∷ es) u
-  way_first true e o u es other is any later =
-      let apart : (e.0 == t) ≡ false = ne_eqb e.0 t (λ same. other (is refl ∙ same)) in
-      inl (rw apart any, sym (is refl))
-  way_first false e o u es other is any later = inr (later any)
+  way_first b e o u es other is any later = grind arith
 
   way_passes : (u : ℕ) (es : List (ℕ × Vec Lock)) → u ≢ t
       → list_any (clashes_with lock) (items_of (lookup (is_at (nat_cmp u)) es)) ≡ true
@@ -108,14 +95,11 @@ module _ (h : Held) (t : ℕ) (lock : Lock) where
   -- what a search for the least says of a take
   pub free_where_none : (least : Option ℕ) → IsLeast (StandsInWay h t lock) least
       → IfNone least (IsGrantable (seen h) t (span_of lock))
-  free_where_none None l = λ u other conflict. l u (other, conflict)
-  free_where_none (Some n) l = tt
+  free_where_none least l = grind arith
 
   pub least_where_some : (least : Option ℕ) → IsLeast (StandsInWay h t lock) least
       → IfSome least (IsLeastHolder (seen h) t (span_of lock))
-  least_where_some None l = tt
-  least_where_some (Some n) l =
-      record { other = l.0.0; conflict = l.0.1; least = λ u other conflict. l.1 u (other, conflict) }
+  least_where_some least l = grind arith
 
   pub searched : AllByRecursion (λ (e : ℕ × Vec Lock). get nat_cmp h.by_txn e.0 ≡ Some e.1) h.by_txn.entries
       → IsLeast (StandsInWay h t lock) (least_of (λ (e : ℕ × Vec Lock). e.0) (blocks t lock) None h.by_txn.entries)

@@ -1,71 +1,43 @@
 -- The index after a lock came or went.
+use Rattle.std.proofs.lemmas.Grind.{common_steps}
 use Rattle.std.proofs.Common.{◌≡◌, ◌≢◌, ℕ, ◌<◌, ◌≤◌, ◌^◌, inl, inr, ◌&&◌, ◌||◌, Bool, true, false, cond, List, [], ◌∷◌, ◌++◌, refl, sym, ap, ◌∙◌, subst, arith}
 use Rattle.std.specs.Prelude.{not}
 use Rattle.std.specs.List.{list_any}
-use Rattle.std.specs.Ordering.{is_eq, nat_cmp, ordering_then}
 use Rattle.std.specs.BTreeSet.{BTreeSet, contains}
-use Rattle.std.specs.declared.cmp.Ordering.{Ordering}
-use Rattle.std.specs.declared.cmp.Ordering.TheVariants.{Less, Equal, Greater}
 use Rattle.std.proofs.lemmas.Bool.{cases_eq}
-use Rattle.std.proofs.lemmas.Bool.Decides.{nat_tests}
-use Rattle.std.proofs.lemmas.Cmp.{nat_cmp_total, tied_itself}
 use Rattle.std.proofs.lemmas.List.Folds.{list_any-append}
 use Rattle.range_locks.specs.declared.span.Lock.{Lock}
 use Rattle.range_locks.specs.declared.entry.Entry.{Entry}
 use Rattle.range_locks.specs.declared.held.Held.{Held}
 use Rattle.range_locks.specs.Meant.{locks_in, Lists}
-use Rattle.range_locks.specs.Order.{lock_cmp, entry_cmp}
+use Rattle.range_locks.specs.Order.{entry_cmp}
 use Rattle.range_locks.specs.Index.{is_lock_of, is_entry_of, stands, IsIndexed}
 use Rattle.range_locks.proofs.Orders.{lock_exact}
 
-tied_then : (o p : Ordering) → p ≡ Equal → is_eq (ordering_then o p) ≡ is_eq o
-tied_then Less p h = refl
-tied_then Equal p h = ap is_eq h
-tied_then Greater p h = refl
-
-apart_then : (o p : Ordering) → is_eq p ≡ false → is_eq (ordering_then o p) ≡ false
-apart_then Less p h = refl
-apart_then Equal p h = h
-apart_then Greater p h = refl
-
 -- at an entry of the transaction, and at another's
 pub same_txn : (t : ℕ) (lock : Lock) (q : Entry) → t ≡ q.txn → is_entry_of t q lock ≡ is_lock_of q lock
-same_txn t lock q same =
-    tied_then (lock_cmp lock q.lock) (nat_cmp t q.txn)
-    (subst (λ u. nat_cmp t u ≡ Equal) same (tied_itself nat_cmp_total t))
+same_txn t lock q same = grind arith
 
 pub other_txn : (t : ℕ) (lock : Lock) (q : Entry) → t ≢ q.txn → is_entry_of t q lock ≡ false
-other_txn t lock q other =
-    let apart : is_eq (nat_cmp t q.txn) ≡ false = grind (arith, nat_tests) in
-    apart_then (lock_cmp lock q.lock) (nat_cmp t q.txn) apart
+other_txn t lock q other = grind arith
 
 one_added : (b x : Bool) → cond b true x ≡ (x || (b || false))
-one_added true true = refl
-one_added true false = refl
-one_added false true = refl
-one_added false false = refl
+one_added b x = grind arith
 
 one_gone : (b x : Bool) → (b ≡ true → x ≡ false) → cond b false (x || (b || false)) ≡ x
-one_gone true x h = sym (h refl)
-one_gone false true h = refl
-one_gone false false h = refl
+one_gone b x h = grind arith
 
 one_stays : (b x : Bool) → (b ≡ true → x ≡ true) → (x || (b || false)) ≡ x
-one_stays true x h = ap (λ b. b || true) (h refl) ∙ sym (h refl)
-one_stays false true h = refl
-one_stays false false h = refl
+one_stays b x h = grind arith
 
 and_not : (x : Bool) → (x && not x) ≡ false
-and_not true = refl
-and_not false = refl
+and_not x = grind arith
 
 and_true : (x y : Bool) → y ≡ false → (x && not y) ≡ x
-and_true true y h = ap not h
-and_true false y h = refl
+and_true x y h = grind arith
 
 pub any_same : {X : Type 0} (p r : X → Bool) (xs : List X) → ((x : X) → p x ≡ r x) → list_any p xs ≡ list_any r xs
-any_same p r [] h = refl
-any_same p r (x ∷ xs) h = (λ i. h x i || any_same p r xs h i)
+any_same p r xs h = grind arith
 
 pub any_none : {X : Type 0} (p : X → Bool) (xs : List X) → ((x : X) → p x ≡ false) → list_any p xs ≡ false
 any_none p [] h = refl
@@ -89,20 +61,8 @@ module _ (old new : Held) (t : ℕ) (s z : BTreeSet Entry) (indexed : IsIndexed 
   pub added_index : (lock : Lock) → t < 2 ^ 64 → Lists old t (locks_in old t ++ lock ∷ []) new
       → ((q : Entry) → contains entry_cmp z q ≡ cond (is_entry_of t q lock) true (contains entry_cmp s q))
       → IsIndexed new z
-  added_index lock small lists has = record {
-    each = λ q. elim (cases_eq t q.txn) [
-      | inl same ↦
-          has q ∙ ap (cond (is_entry_of t q lock) true) (indexed.each q)
-          ∙ ap (λ b. cond b true (stands old q)) (same_txn t lock q same)
-          ∙ one_added (is_lock_of q lock) (stands old q)
-          ∙ sym (with_last q (locks_in old q.txn) (locks_in new q.txn) lock
-          (subst (λ u. locks_in new u ≡ locks_in old u ++ lock ∷ []) same lists.own))
-      | inr other ↦
-          has q ∙ ap (λ b. cond b true (contains entry_cmp s q)) (other_txn t lock q other) ∙ indexed.each q
-          ∙ sym (others_stand q lists.others other)
-    ];
-    fits = still_fits lists.others small;
-  }
+  added_index lock small lists has =
+      grind (arith, common_steps, cases_eq, same_txn, one_added, with_last, other_txn, others_stand, still_fits)
 
   -- the newest lock went, and stays indexed only where the transaction has it once more
   at_lock : (lock : Lock) (q : Entry) → t ≡ q.txn → is_lock_of q lock ≡ true
@@ -116,35 +76,14 @@ module _ (old new : Held) (t : ℕ) (s z : BTreeSet Entry) (indexed : IsIndexed 
       → stands new (record { lock = lock; txn = t }) ≡ false
       → ((q : Entry) → contains entry_cmp z q ≡ cond (is_entry_of t q lock) false (contains entry_cmp s q))
       → IsIndexed new z
-  removed_index lock small was others gone has = record {
-    each = λ q. elim (cases_eq t q.txn) [
-      | inl same ↦
-          has q ∙ ap (cond (is_entry_of t q lock) false) (indexed.each q)
-          ∙ ap (λ b. cond b false (stands old q)) (same_txn t lock q same)
-          ∙ ap (cond (is_lock_of q lock) false)
-          (with_last q (locks_in new q.txn) (locks_in old q.txn) lock
-          (subst (λ u. locks_in old u ≡ locks_in new u ++ lock ∷ []) same was))
-          ∙ one_gone (is_lock_of q lock) (stands new q) (λ is. at_lock lock q same is ∙ gone)
-      | inr other ↦
-          has q ∙ ap (λ b. cond b false (contains entry_cmp s q)) (other_txn t lock q other) ∙ indexed.each q
-          ∙ sym (others_stand q others other)
-    ];
-    fits = still_fits others small;
-  }
+  removed_index lock small was others gone has =
+      grind (arith, common_steps, cases_eq, same_txn, with_last, one_gone, at_lock, other_txn, others_stand, still_fits)
 
   pub kept_index : (lock : Lock) → t < 2 ^ 64 → locks_in old t ≡ locks_in new t ++ lock ∷ []
       → ((u : ℕ) → u ≢ t → locks_in new u ≡ locks_in old u)
       → stands new (record { lock = lock; txn = t }) ≡ true → IsIndexed new s
-  kept_index lock small was others there = record {
-    each = λ q. elim (cases_eq t q.txn) [
-      | inl same ↦
-          indexed.each q ∙ with_last q (locks_in new q.txn) (locks_in old q.txn) lock
-          (subst (λ u. locks_in old u ≡ locks_in new u ++ lock ∷ []) same was)
-          ∙ one_stays (is_lock_of q lock) (stands new q) (λ is. at_lock lock q same is ∙ there)
-      | inr other ↦ indexed.each q ∙ sym (others_stand q others other)
-    ];
-    fits = still_fits others small;
-  }
+  kept_index lock small was others there =
+      grind (arith, common_steps, cases_eq, with_last, one_stays, at_lock, others_stand, still_fits)
 
   -- all of a transaction's went
   pub released_index : t < 2 ^ 64 → Lists old t [] new

@@ -1,5 +1,5 @@
 -- While one transaction alone has locks, the index may lack.
-use Rattle.std.proofs.Common.{◌≡◌, ◌≢◌, ℕ, ◌<◌, ◌^◌, false, length, List, [], ◌∷◌, Option, Some, None, Result, Ok, Err, OnOk, OnErr, refl, sym, ap, ◌∙◌, subst, reverse, arith, true≢false}
+use Rattle.std.proofs.Common.{◌≡◌, ◌≢◌, ℕ, ◌<◌, ◌^◌, false, length, List, [], ◌∷◌, Option, Some, None, Result, Ok, Err, OnOk, OnErr, refl, sym, ap, ◌∙◌, reverse, arith, true≢false}
 use Rattle.std.specs.Prelude.{IfNone, is_some}
 use Rattle.std.specs.BTreeSet.{BTreeSet}
 use Rattle.std.proofs.lemmas.List.{length-map, length-reverse}
@@ -7,8 +7,7 @@ use Rattle.range_locks.specs.declared.span.Lock.{Lock}
 use Rattle.range_locks.specs.declared.entry.Entry.{Entry}
 use Rattle.range_locks.specs.declared.held.Held.{Held}
 use Rattle.record_key.specs.declared.refusal.Refusal.{Refusal}
-use Rattle.history.specs.Spans.{Span}
-use Rattle.range_locks.specs.Locks.{spans_of, IsGrantable}
+use Rattle.range_locks.specs.Locks.{spans_of}
 use Rattle.range_locks.specs.Meant.{span_of, newest_first, seen, locks_in, Lists}
 use Rattle.range_locks.specs.Index.{HasOneHolder, IsKept}
 use Rattle.range_locks.proofs.Leaving.{read}
@@ -31,8 +30,7 @@ taken_alone old new t locks small alone lists = record {
 
 -- the same locks
 same_alone : (old new : Held) → ((u : ℕ) → locks_in new u ≡ locks_in old u) → HasOneHolder old → HasOneHolder new
-same_alone old new lists one =
-    record { holder = one.holder; fits = one.fits; others = λ u other. lists u ∙ one.others u other }
+same_alone old new lists one = grind arith
 
 -- a lock more, or none for want of memory, where there is no index
 pub pushed_alone : (old new : Held) (index : Option (BTreeSet Entry)) (t : ℕ) (locks : List Lock)
@@ -51,10 +49,3 @@ pub pushed_first : (old new : Held) (index : Option (BTreeSet Entry)) (t : ℕ) 
 pushed_first old new None t locks r none small kept alone lists same =
     pushed_alone old new None t locks r refl small kept alone lists same
 pushed_first old new (Some s) t locks r none small kept alone lists same = absurd (true≢false none)
-
--- nobody conflicts where the table was the same
-pub free_before : (old new : Held) (t : ℕ) (s : Span) (least : Option ℕ) (r : Result (Unit {0}) Refusal) → new ≡ old
-    → IfNone least (IsGrantable (seen new) t s) → least ≡ None → OnOk r (IsGrantable (seen old) t s)
-free_before old new t s least (Ok x) same free none =
-    subst (λ (h : Held). IsGrantable (seen h) t s) same (subst (λ o. IfNone o (IsGrantable (seen new) t s)) none free)
-free_before old new t s least (Err e) same free none = tt

@@ -2,8 +2,7 @@
 use Rattle.std.proofs.Common.{◌≡◌, ℕ, zero, suc, [], ◌∷◌, ◌++◌, refl, ap, arith}
 use Rattle.std.specs.Ordering.{is_lt, is_le, nat_cmp, ordering_then}
 use Rattle.std.specs.declared.cmp.Ordering.{Ordering}
-use Rattle.std.specs.declared.cmp.Ordering.TheVariants.{Less, Equal, Greater}
-use Rattle.std.proofs.lemmas.Bool.Decides.{nat_tests}
+use Rattle.std.specs.declared.cmp.Ordering.TheVariants.{Greater}
 use Rattle.record_key.specs.Table.{Bytes}
 use Rattle.record_key.specs.Laws.{key_cmp}
 use Rattle.record_key.specs.Order.{HasKeys, one_key}
@@ -12,14 +11,10 @@ use Rattle.record_key.proofs.KeyOrder.{key_cmp-beginning}
 past_zero : (x : ℕ) (xs : Bytes) → is_lt (ordering_then (nat_cmp x 0) (key_cmp xs [])) ≡ is_le Greater
 past_zero zero [] = refl
 past_zero zero (y ∷ ys) = refl
-past_zero (suc x) xs =
-    let above : nat_cmp (suc x) 0 ≡ Greater = grind (arith, nat_tests) in
-    rw above refl
+past_zero (suc x) xs = grind arith
 
 same_first : (o : Ordering) (p q : Ordering) → is_lt p ≡ is_le q → is_lt (ordering_then o p) ≡ is_le (ordering_then o q)
-same_first Less p q h = refl
-same_first Equal p q h = h
-same_first Greater p q h = refl
+same_first o p q h = grind arith
 
 -- what is below the next text is at most the key
 pub below_next : (a k : Bytes) → is_lt (key_cmp a (k ++ 0 ∷ [])) ≡ is_le (key_cmp a k)

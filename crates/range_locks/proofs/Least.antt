@@ -1,38 +1,23 @@
 -- A search for the least.
-use Rattle.std.proofs.Common.{◌≡◌, ◌⊎◌, ℕ, Bool, true, false, cond, List, [], ◌∷◌, Option, Some, None, refl, sym, inl, inr, arith, lt-ltb, true≢false}
-use Rattle.std.proofs.lemmas.Bool.{cases_lt, le-ltb}
+use Rattle.std.proofs.Common.{◌≡◌, ◌⊎◌, ℕ, Bool, true, cond, List, [], ◌∷◌, Option, Some, None, inl, inr, arith}
 use Rattle.range_locks.specs.Least.{lesser, least_of, Passes, IsLeast}
 
 pub same_least : (P Q : ℕ → Type 0) (least : Option ℕ) → ((u : ℕ) → P u → Q u) → ((u : ℕ) → Q u → P u) → IsLeast P least
     → IsLeast Q least
-same_least P Q None to from h = λ u q. h u (from u q)
-same_least P Q (Some n) to from h = (to n h.0, λ u q. h.1 u (from u q))
+same_least h h2 least to from h3 = grind arith
 
 one_more : (P : ℕ → Type 0) (least : Option ℕ) (n : ℕ) → IsLeast P least
     → IsLeast (λ u. P u ⊎ (n ≡ u)) (Some (lesser least n))
-one_more P None n h = (inr refl, λ u. λ p. elim p [ inl p ↦ absurd (h u p) | inr same ↦ omega (arith, same) ])
-one_more P (Some m) n h =
-    elim (cases_lt m n) [
-      | inl less ↦ rw (lt-ltb m n less)
-          (inl h.0, λ u. λ p. elim p [ inl p ↦ h.1 u p | inr same ↦ omega (arith, same, less) ])
-      | inr ge ↦ rw (le-ltb m n ge)
-          (inr refl, λ u. λ p. elim p [ inl p ↦ omega (arith, h.1 u p, ge) | inr same ↦ omega (arith, same) ])
-    ]
+one_more h least n h2 = grind arith
 
 one_tested : (b : Bool) (P : ℕ → Type 0) (least : Option ℕ) (n : ℕ) → IsLeast P least
     → IsLeast (λ u. P u ⊎ ((b ≡ true) × (n ≡ u))) (cond b (Some (lesser least n)) least)
-one_tested true P least n h =
-    same_least (λ u. P u ⊎ (n ≡ u)) _ (Some (lesser least n))
-    (λ u. λ p. elim p [ inl p ↦ inl p | inr same ↦ inr (refl, same) ])
-    (λ u. λ p. elim p [ inl p ↦ inl p | inr both ↦ inr both.1 ]) (one_more P least n h)
-one_tested false P least n h =
-    same_least P _ least (λ u p. inl p) (λ u. λ p. elim p [ inl p ↦ p | inr both ↦ absurd (true≢false (sym both.0)) ]) h
+one_tested b h least n h2 = grind arith
 
 least_after : {X : Type 0} (holder : X → ℕ) (test : X → Bool) (P : ℕ → Type 0) (least : Option ℕ) (xs : List X)
     → IsLeast P least
     → IsLeast (λ u. P u ⊎ Passes holder test xs u) (least_of holder test least xs)
-least_after holder test P least [] h =
-    same_least P _ least (λ u p. inl p) (λ u. λ p. elim p [ inl p ↦ p | inr never ↦ absurd never ]) h
+least_after holder test P least [] h = grind (arith, same_least)
 least_after holder test P least (x ∷ xs) h =
     let Q : ℕ → Type 0 = λ u. P u ⊎ ((test x ≡ true) × (holder x ≡ u)) in
     let new : Option ℕ = cond (test x) (Some (lesser least (holder x))) least in

@@ -1,5 +1,6 @@
 -- What a change at one transaction leaves to each.
-use Rattle.std.proofs.Common.{◌≡◌, ◌≢◌, ℕ, ◌<◌, length, Bool, true, false, cond, List, [], ◌∷◌, ◌++◌, Option, Some, refl, sym, ap, ◌∙◌, subst, map, reverse, arith, true≢false, Result, Ok, Err, OnErr}
+use Rattle.std.proofs.lemmas.Grind.{common_steps}
+use Rattle.std.proofs.Common.{◌≡◌, ◌≢◌, ℕ, ◌<◌, length, Bool, true, false, cond, List, [], ◌∷◌, ◌++◌, Option, Some, refl, sym, ap, ◌∙◌, map, arith, true≢false, Result, OnErr}
 use Rattle.std.specs.Global.{Vec}
 use Rattle.std.specs.BTreeMap.{BTreeMap, get, Updates, is_at}
 use Rattle.std.specs.Map.{lookup, set_value}
@@ -8,7 +9,6 @@ use Rattle.std.proofs.lemmas.Bool.Decides.{nat_tests}
 use Rattle.std.specs.Prelude.{not, is_some, None}
 use Rattle.std.specs.Bool.{MatchBool}
 use Rattle.std.proofs.lemmas.List.{reverse-append, length-map, length-reverse}
-use Rattle.std.proofs.lemmas.Option.{same_Some}
 use Rattle.history.specs.Spans.{Span}
 use Rattle.range_locks.specs.declared.span.Lock.{Lock}
 use Rattle.range_locks.specs.declared.held.Held.{Held}
@@ -17,8 +17,7 @@ use Rattle.range_locks.specs.Meant.{span_of, newest_first, seen, items_of, locks
 
 read_first : (b : Bool) (locks : Vec Lock) (o : Option (Vec Lock)) (rest : List Span) → rest ≡ newest_first (items_of o)
     → cond b (newest_first locks.items) rest ≡ newest_first (items_of (cond b (Some locks) o))
-read_first true locks o rest h = refl
-read_first false locks o rest h = h
+read_first b locks o rest h = grind arith
 
 read_entries : (es : List (ℕ × Vec Lock)) (t : ℕ)
     → spans_of (map (λ (e : ℕ × Vec Lock). (e.0, newest_first e.1.items)) es) t
@@ -35,24 +34,17 @@ apart t u other = grind (arith, nat_tests)
 
 -- where one transaction is listed, no other has a lock
 listed : (b : Bool) (locks : Vec Lock) → is_some (cond b (Some locks) None) ≡ true → b ≡ true
-listed true locks h = refl
-listed false locks h = h
+listed b locks h = grind arith
 
 unlisted : (es : List (ℕ × Vec Lock)) (t : ℕ) → length es ≡ 1 → is_some (lookup (is_at (nat_cmp t)) es) ≡ true
     → (u : ℕ) → u ≢ t → lookup (is_at (nat_cmp u)) es ≡ None
 unlisted [] t one some u other = refl
-unlisted (e ∷ []) t one some u other =
-    let own : is_eq (nat_cmp t e.0) ≡ true = listed (is_eq (nat_cmp t e.0)) e.1 some in
-    let differs : is_eq (nat_cmp u e.0) ≡ false = grind (arith, nat_tests) in
-    ap (λ b. cond b (Some e.1) None) differs
-unlisted (e ∷ f ∷ es) t one some u other =
-    let none : ⊥ = grind arith in
-    absurd none
+unlisted (e ∷ []) t one some u other = grind (arith, listed)
+unlisted (e ∷ f ∷ es) t one some u other = grind arith
 
 pub alone : (h : Held) (t : ℕ) → length h.by_txn.entries ≡ 1 → is_some (get nat_cmp h.by_txn t) ≡ true
     → (u : ℕ) → u ≢ t → spans_of (seen h) u ≡ []
-alone h t one some u other =
-    read h u ∙ ap (λ o. newest_first (items_of o)) (unlisted h.by_txn.entries t one some u other)
+alone h t one some u other = grind (arith, read, unlisted)
 
 pub lists : (old new : BTreeMap ℕ (Vec Lock)) (t : ℕ) (locks : Option (Vec Lock)) → Updates nat_cmp old new t locks
     → Lists (record { by_txn = old }) t (items_of locks) (record { by_txn = new })
@@ -68,9 +60,7 @@ pub pushed : (old new : BTreeMap ℕ (Vec Lock)) (t : ℕ) (locks : Vec Lock) (w
     → Updates nat_cmp old new t (Some locks)
     → locks.items ≡ was ++ lock ∷ [] → was ≡ locks_in (record { by_txn = old }) t
     → Lists (record { by_txn = old }) t (locks_in (record { by_txn = old }) t ++ lock ∷ []) (record { by_txn = new })
-pushed old new t locks was lock updates items had =
-    subst (λ all. Lists (record { by_txn = old }) t all (record { by_txn = new }))
-    (items ∙ ap (λ all. all ++ lock ∷ []) had) (lists old new t (Some locks) updates)
+pushed old new t locks was lock updates items had = grind arith
 
 -- what is written back with the same locks is seen as it was
 seen_entries : List (ℕ × Vec Lock) → LocksView
@@ -81,11 +71,7 @@ kept_first : (b : Bool) (e : ℕ × Vec Lock) (o : Option (Vec Lock)) (v w : Vec
     → (o ≡ Some v → seen_entries fs ≡ seen_entries es)
     → seen_entries (cond b ((e.0, w) ∷ es) (e ∷ fs)) ≡ seen_entries (e ∷ es)
 unfolding seen_entries
-kept_first true e o v w es fs found items later =
-    let one : e.1 ≡ v = same_Some e.1 v found in
-    ap (λ (locks : List Lock). (e.0, newest_first locks) ∷ seen_entries es)
-    (items ∙ ap (λ (x : Vec Lock). x.items) (sym one))
-kept_first false e o v w es fs found items later = ap (λ rest. (e.0, newest_first e.1.items) ∷ rest) (later found)
+kept_first b e o v w es fs found items later = grind arith
 
 kept_entries : (es : List (ℕ × Vec Lock)) (t : ℕ) (v w : Vec Lock) → lookup (is_at (nat_cmp t)) es ≡ Some v
     → w.items ≡ v.items
@@ -103,19 +89,13 @@ unfolding seen_entries
 kept old new t v w is found items = ap seen_entries is ∙ kept_entries old.entries t v w (sym found) items
 
 pub on_err : {A E : Type 0} (r : Result A E) {P : Type 0} → P → OnErr r P
-on_err (Ok x) p = tt
-on_err (Err e) p = p
+on_err r p = grind arith
 
 pub nonempty : (locks : List Lock) → locks ≢ [] → 0 < length locks
-nonempty [] some = absurd (some refl)
-nonempty (lock ∷ locks) some = omega arith
+nonempty locks some = grind (arith, common_steps)
 
 -- whether there is a lock
 pub any_held : (h : Held) (t : ℕ) (locks : List Lock) (empty : Bool) → locks ≡ locks_in h t
     → (empty ≡ true → length locks ≡ 0) → (length locks ≡ 0 → empty ≡ true)
     → MatchBool (not empty) (spans_of (seen h) t ≢ []) (spans_of (seen h) t ≡ [])
-any_held h t [] true is none empty = read h t ∙ ap newest_first (sym is)
-any_held h t (lock ∷ locks) true is none empty = absurd (omega (arith, none refl))
-any_held h t locks false is none empty = λ spans.
-    let long : length (newest_first locks) ≡ length locks = length-map (reverse locks) span_of ∙ length-reverse locks in
-    true≢false (sym (empty (sym long ∙ ap length (ap newest_first is ∙ sym (read h t) ∙ spans))))
+any_held h t locks empty is none empty2 = grind (arith, common_steps, read, length-map, length-reverse, true≢false)

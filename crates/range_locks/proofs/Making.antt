@@ -1,5 +1,6 @@
 -- The index while the locks of one transaction after another come into it.
-use Rattle.std.proofs.Common.{◌≡◌, ◌≢◌, ℕ, ◌+◌, ◌<◌, inl, inr, ◌||◌, Bool, true, false, cond, List, [], ◌∷◌, length, get_or, take, Option, Some, refl, sym, ap, ◌∙◌, subst, arith, true≢false}
+use Rattle.std.proofs.lemmas.Grind.{common_steps}
+use Rattle.std.proofs.Common.{◌≡◌, ◌≢◌, ℕ, ◌+◌, ◌<◌, inl, inr, ◌||◌, Bool, true, false, cond, List, [], ◌∷◌, length, get_or, take, Option, Some, refl, sym, ap, ◌∙◌, subst, arith}
 use Rattle.std.specs.Global.{Vec}
 use Rattle.std.specs.BTreeMap.{IsOrdered, is_at}
 use Rattle.std.specs.Map.{lookup, keys_of}
@@ -8,7 +9,6 @@ use Rattle.std.specs.List.Sorted.{IsStrictlySortedBy}
 use Rattle.std.specs.Ordering.{is_eq, nat_cmp}
 use Rattle.std.specs.declared.cmp.Ordering.TheVariants.{Less}
 use Rattle.std.proofs.lemmas.Bool.{cases_eq}
-use Rattle.std.proofs.lemmas.Bool.Decides.{nat_tests}
 use Rattle.std.proofs.lemmas.List.{take_more}
 use Rattle.std.proofs.lemmas.List.Folds.{list_any-append}
 use Rattle.std.proofs.lemmas.Map.Keys.{sorted_head, sorted_tail}
@@ -22,14 +22,7 @@ use Rattle.range_locks.proofs.Leaving.{apart}
 use Rattle.range_locks.proofs.Tables.{one_number}
 
 one_in : (b x was : Bool) → cond b true (was || x) ≡ (was || (x || (b || false)))
-one_in true true true = refl
-one_in true true false = refl
-one_in true false true = refl
-one_in true false false = refl
-one_in false true true = refl
-one_in false true false = refl
-one_in false false true = refl
-one_in false false false = refl
+one_in b x was = grind arith
 
 -- a transaction's locks are put into the index one after another
 pub one_remembered : (t : ℕ) (q : Entry) (locks : List Lock) (i : ℕ) (item copy : Lock) (was now new : Bool)
@@ -37,20 +30,14 @@ pub one_remembered : (t : ℕ) (q : Entry) (locks : List Lock) (i : ℕ) (item c
     → now ≡ (was || list_any (is_entry_of t q) (take i locks)) → new ≡ cond (is_entry_of t q copy) true now
     → new ≡ (was || list_any (is_entry_of t q) (take (i + 1) locks))
 one_remembered t q locks i item copy was now new within same at before came =
-    came ∙ ap (cond (is_entry_of t q copy) true) before
-    ∙ one_in (is_entry_of t q copy) (list_any (is_entry_of t q) (take i locks)) was
-    ∙ ap (λ l. was || (list_any (is_entry_of t q) (take i locks) || (is_entry_of t q l || false))) (same ∙ at)
-    ∙ ap (λ b. was || b)
-    (sym (ap (list_any (is_entry_of t q)) (take_more locks i item within)
-    ∙ list_any-append (is_entry_of t q) (take i locks) (get_or locks i item ∷ [])))
+    grind (arith, common_steps, one_in, take_more, list_any-append)
 
 -- the entry's lock is among those that are listed with the entry's transaction
 abbrev pub is_listed : Entry → ℕ × Vec Lock → Bool
 is_listed q e = list_any (is_entry_of e.0 q) e.1.items
 
 or_false : (x : Bool) → (x || false) ≡ x
-or_false true = refl
-or_false false = refl
+or_false x = grind arith
 
 own : (q : Entry) (e : ℕ × Vec Lock) → e.0 ≡ q.txn → is_listed q e ≡ list_any (is_lock_of q) e.1.items
 own q e same = any_same (is_entry_of e.0 q) (is_lock_of q) e.1.items (λ l. same_txn e.0 l q same)
@@ -60,20 +47,16 @@ foreign q e other = any_none (is_entry_of e.0 q) e.1.items (λ l. other_txn e.0 
 
 found_first : (b : Bool) (q : Entry) (v : Vec Lock) (o : Option (Vec Lock)) → b ≡ true
     → list_any (is_lock_of q) (items_of (cond b (Some v) o)) ≡ list_any (is_lock_of q) v.items
-found_first true q v o is = refl
-found_first false q v o is = absurd (true≢false (sym is))
+found_first b q v o is = grind arith
 
 found_later : (b : Bool) (q : Entry) (v : Vec Lock) (o : Option (Vec Lock)) → b ≡ false
     → list_any (is_lock_of q) (items_of (cond b (Some v) o)) ≡ list_any (is_lock_of q) (items_of o)
-found_later true q v o is = absurd (true≢false is)
-found_later false q v o is = refl
+found_later b q v o is = grind arith
 
 none_listed : (q : Entry) (es : List (ℕ × Vec Lock)) → AllByRecursion (λ (k : ℕ). nat_cmp q.txn k ≡ Less) (keys_of es)
     → list_any (is_listed q) es ≡ false
 none_listed q [] all = refl
-none_listed q (e ∷ es) all =
-    let other : e.0 ≢ q.txn = λ same. grind (arith, nat_tests) in
-    ap (λ b. b || list_any (is_listed q) es) (foreign q e other) ∙ none_listed q es all.1
+none_listed q (e ∷ es) all = grind (arith, none_listed q es all.1, foreign)
 
 all_stand : (q : Entry) (es : List (ℕ × Vec Lock)) → IsStrictlySortedBy nat_cmp (keys_of es)
     → list_any (is_listed q) es ≡ list_any (is_lock_of q) (items_of (lookup (is_at (nat_cmp q.txn)) es))

@@ -1,5 +1,5 @@
 -- The index's order tells all entries apart.
-use Rattle.std.proofs.Common.{◌≡◌, true, false, Option, Some, None, refl, sym, ap, ◌∙◌, true≢false}
+use Rattle.std.proofs.Common.{arith, ◌≡◌, true, false, Option, Some, None, refl, sym, ap, ◌∙◌, true≢false}
 use Rattle.std.specs.Cmp.{Equal-is}
 use Rattle.std.specs.Option.{option_cmp}
 use Rattle.std.specs.Ordering.{is_eq, nat_cmp, ordering_then}
@@ -10,7 +10,6 @@ use Rattle.std.proofs.lemmas.Map.Lookups.{exact_bytes, exact_unsigned}
 use Rattle.record_key.specs.Table.{Bytes}
 use Rattle.record_key.specs.Laws.{key_cmp}
 use Rattle.range_locks.specs.declared.span.Mode.{Mode}
-use Rattle.range_locks.specs.declared.span.Mode.TheVariants.{Shared, Increment, Exclusive}
 use Rattle.range_locks.specs.declared.span.Span.{Span}
 use Rattle.range_locks.specs.declared.span.Span.TheVariants.{Key, Range}
 use Rattle.range_locks.specs.declared.span.Lock.{Lock}
@@ -18,23 +17,13 @@ use Rattle.range_locks.specs.declared.entry.Entry.{Entry}
 use Rattle.range_locks.specs.Order.{mode_cmp, span_cmp, lock_cmp, entry_cmp}
 
 both_tied : (o p : Ordering) → ordering_then o p ≡ Equal → (o ≡ Equal) × (p ≡ Equal)
-both_tied Less p h = absurd (true≢false (sym (ap is_eq h)))
-both_tied Equal p h = (refl, h)
-both_tied Greater p h = absurd (true≢false (sym (ap is_eq h)))
+both_tied o p h = grind arith
 
 untied : {P : Type 0} (o : Ordering) → is_eq o ≡ false → o ≡ Equal → P
 untied o out h = absurd (true≢false (sym (ap is_eq h) ∙ out))
 
 mode_exact : (a b : Mode) → mode_cmp a b ≡ Equal → a ≡ b
-mode_exact Shared Shared h = refl
-mode_exact Shared Increment h = untied Less refl h
-mode_exact Shared Exclusive h = untied Less refl h
-mode_exact Increment Shared h = untied Greater refl h
-mode_exact Increment Increment h = refl
-mode_exact Increment Exclusive h = untied Less refl h
-mode_exact Exclusive Shared h = untied Greater refl h
-mode_exact Exclusive Increment h = untied Greater refl h
-mode_exact Exclusive Exclusive h = refl
+mode_exact a b h = grind arith
 
 end_exact : (a b : Option Bytes) → option_cmp key_cmp a b ≡ Equal → a ≡ b
 end_exact None None h = refl
@@ -67,18 +56,13 @@ entry_exact a b h =
     λ i. record { lock = locks i; txn = txns i }
 
 mode_tied : (m : Mode) → mode_cmp m m ≡ Equal
-mode_tied Shared = refl
-mode_tied Increment = refl
-mode_tied Exclusive = refl
+mode_tied m = grind arith
 
 end_tied : (e : Option Bytes) → option_cmp key_cmp e e ≡ Equal
-end_tied None = refl
-end_tied (Some k) = tied_itself nat_list_cmp_total k
+end_tied e = grind (arith, tied_itself, nat_list_cmp_total)
 
 span_tied : (s : Span) → span_cmp s s ≡ Equal
-span_tied (Range low high) =
-    ap (λ o. ordering_then o (option_cmp key_cmp high high)) (tied_itself nat_list_cmp_total low) ∙ end_tied high
-span_tied (Key k) = tied_itself nat_list_cmp_total k
+span_tied s = grind (arith, tied_itself, nat_list_cmp_total, end_tied)
 
 pub lock_tied : (l : Lock) → lock_cmp l l ≡ Equal
 lock_tied l = ap (λ o. ordering_then o (mode_cmp l.mode l.mode)) (span_tied l.span) ∙ mode_tied l.mode

@@ -1,19 +1,17 @@
 -- The index after a take that was refused.
-use Rattle.std.proofs.Common.{◌≡◌, ℕ, Bool, true, false, cond, refl, sym, ap, ◌∙◌}
-use Rattle.std.specs.List.{list_any}
+use Rattle.std.proofs.Common.{arith, ◌≡◌, ℕ, Bool, true, false, cond, sym, ap, ◌∙◌}
 use Rattle.std.specs.Ordering.{is_eq}
 use Rattle.std.specs.BTreeSet.{BTreeSet, contains}
 use Rattle.range_locks.specs.declared.entry.Entry.{Entry}
 use Rattle.range_locks.specs.declared.held.Held.{Held}
 use Rattle.range_locks.specs.Meant.{locks_in}
 use Rattle.range_locks.specs.Order.{entry_cmp}
-use Rattle.range_locks.specs.Index.{is_lock_of, IsIndexed}
+use Rattle.range_locks.specs.Index.{IsIndexed}
 use Rattle.range_locks.proofs.Orders.{entry_exact}
 
 -- an entry that came and went again
 back : (b x : Bool) → (b ≡ true → x ≡ false) → cond b false (cond b true x) ≡ x
-back true x h = sym (h refl)
-back false x h = refl
+back b x h = grind arith
 
 pub taken_back : (h : Held) (s y z : BTreeSet Entry) (e : Entry) → IsIndexed h s → contains entry_cmp s e ≡ false
     → ((q : Entry) → contains entry_cmp y q ≡ cond (is_eq (entry_cmp e q)) true (contains entry_cmp s q))
@@ -31,8 +29,4 @@ taken_back h s y z e indexed absent came went = record {
 -- the same locks and the same entries
 pub same_index : (old new : Held) (s z : BTreeSet Entry) → ((u : ℕ) → locks_in new u ≡ locks_in old u) → z.keys ≡ s.keys
     → IsIndexed old s → IsIndexed new z
-same_index old new s z lists keys indexed = record {
-  each = λ q. ap (list_any (λ k. is_eq (entry_cmp q k))) keys ∙ indexed.each q
-      ∙ sym (ap (list_any (is_lock_of q)) (lists q.txn));
-  fits = λ u large. lists u ∙ indexed.fits u large;
-}
+same_index old new s z lists keys indexed = grind arith

@@ -1,8 +1,8 @@
 -- A search of the index finds who stands in a take's way.
-use Rattle.std.proofs.Common.{◌≡◌, ◌⊎◌, ℕ, ◌<◌, ◌^◌, ◌==◌, ◌&&◌, ◌||◌, Bool, true, false, cond, filter, List, [], ◌∷◌, Option, None, refl, sym, ap, ◌∙◌, subst, inl, inr, true≢false, ne_eqb}
+use Rattle.std.proofs.Common.{arith, ◌≡◌, ◌⊎◌, ℕ, ◌<◌, ◌^◌, ◌==◌, ◌&&◌, ◌||◌, Bool, true, false, cond, filter, List, [], ◌∷◌, Option, None, refl, sym, ap, ◌∙◌, subst, inl, inr, true≢false, ne_eqb}
 use Rattle.std.specs.Prelude.{not}
 use Rattle.std.specs.List.{list_any}
-use Rattle.std.proofs.lemmas.Bool.{cases_lt, or_right}
+use Rattle.std.proofs.lemmas.Bool.{or_right}
 use Rattle.std.specs.BTreeMap.Range.{range_contains}
 use Rattle.std.specs.declared.ops.Bound.{Bound}
 use Rattle.std.specs.declared.ops.Bound.TheVariants.{Included, Unbounded}
@@ -38,8 +38,7 @@ has_any p x (y ∷ ys) has h =
 
 first_or : {X : Type 0} (b : Bool) (p : X → Bool) (x : X) (xs : List X) → p x ≡ b → (b || list_any p xs) ≡ true
     → (list_any p xs ≡ true → (y : X) × Has y xs × (p y ≡ true)) → (y : X) × Has y (x ∷ xs) × (p y ≡ true)
-first_or true p x xs is h later = (x, inl refl, is)
-first_or false p x xs is h later = let found = later h in (found.0, inr found.1, found.2)
+first_or b p x xs is h later = grind arith
 
 any_has : {X : Type 0} (p : X → Bool) (xs : List X) → list_any p xs ≡ true → (x : X) × Has x xs × (p x ≡ true)
 any_has p [] h = absurd (true≢false (sym h))
@@ -51,13 +50,7 @@ module _ {X : Type 0} (holder : X → ℕ) (test p : X → Bool) where
       → Passes holder test (cond b (x ∷ filter p xs) (filter p xs)) u
       → (Passes holder test (filter p xs) u → (y : X) × Has y xs × (test y ≡ true) × (holder y ≡ u))
       → (y : X) × Has y (x ∷ xs) × (test y ≡ true) × (holder y ≡ u)
-  passes_first true x xs u passes later =
-      elim passes [
-        | inl here ↦ (x, inl refl, here.0, here.1)
-        | inr more ↦ let found = later more in
-            (found.0, inr found.1, found.2, found.3)
-      ]
-  passes_first false x xs u passes later = let found = later passes in (found.0, inr found.1, found.2, found.3)
+  passes_first b x xs u passes later = grind arith
 
   pub passes_has : (xs : List X) (u : ℕ) → Passes holder test (filter p xs) u
       → (y : X) × Has y xs × (test y ≡ true) × (holder y ≡ u)
@@ -66,13 +59,11 @@ module _ {X : Type 0} (holder : X → ℕ) (test p : X → Bool) where
 
   here_passes : (b : Bool) (x y : X) (xs : List X) → b ≡ true → x ≡ y → test y ≡ true
       → Passes holder test (cond b (x ∷ xs) xs) (holder y)
-  here_passes true x y xs is same tests = inl (ap test same ∙ tests, ap holder same)
-  here_passes false x y xs is same tests = absurd (true≢false (sym is))
+  here_passes b x y xs is same tests = grind arith
 
   later_passes : (b : Bool) (x : X) (xs : List X) (u : ℕ) → Passes holder test xs u
       → Passes holder test (cond b (x ∷ xs) xs) u
-  later_passes true x xs u passes = inr passes
-  later_passes false x xs u passes = passes
+  later_passes b x xs u passes = grind arith
 
   pub has_passes : (y : X) (xs : List X) → Has y xs → p y ≡ true → test y ≡ true
       → Passes holder test (filter p xs) (holder y)
@@ -86,8 +77,7 @@ module _ {X : Type 0} (holder : X → ℕ) (test p : X → Bool) where
 module _ (h : Held) (s : BTreeSet Entry) (t : ℕ) (lock : Lock) (indexed : IsIndexed h s) where
   -- an indexed entry is held
   entry_stands : (e : Entry) → Has e s.keys → stands h e ≡ true
-  entry_stands e has = sym (indexed.each e)
-      ∙ has_any (λ (k : Entry). is_eq (entry_cmp e k)) e s.keys has (ap is_eq (entry_tied e))
+  entry_stands e has = grind (arith, has_any, entry_tied)
 
   entry_way : (e : Entry) → Has e s.keys → stops t lock e ≡ true → StandsInWay h t lock e.txn
   entry_way e has stopping =
@@ -104,11 +94,7 @@ module _ (h : Held) (s : BTreeSet Entry) (t : ℕ) (lock : Lock) (indexed : IsIn
       subst (StandsInWay h t lock) found.3 (entry_way found.0 found.1 found.2)
 
   small : (u : ℕ) (l : Lock) → Has l (locks_in h u) → u < 2 ^ 64
-  small u l has =
-      elim (cases_lt u (2 ^ 64)) [
-        | inl less ↦ less
-        | inr large ↦ absurd (subst (Has l) (indexed.fits u large) has)
-      ]
+  small u l has = grind arith
 
   -- what is held and conflicts is an entry
   way_entry : (u : ℕ) → StandsInWay h t lock u

@@ -1,5 +1,5 @@
 -- A change of the map, as the spans of its transaction show it.
-use Rattle.std.proofs.Common.{◌≡◌, ℕ, ◌<◌, length, Bool, true, false, cond, List, [], ◌∷◌, ◌++◌, Some, refl, sym, ap, ◌∙◌, subst, drop, map, reverse, arith, true≢false}
+use Rattle.std.proofs.Common.{◌≡◌, ℕ, ◌<◌, length, Bool, cond, List, [], ◌∷◌, ◌++◌, Some, refl, sym, ap, ◌∙◌, subst, drop, map, reverse, arith, true≢false}
 use Rattle.std.specs.Global.{Vec}
 use Rattle.std.specs.BTreeMap.{BTreeMap, IsOrdered, get, insert_entry, is_at}
 use Rattle.std.specs.Map.{keys_of, lookup, remove_entry, set_value}
@@ -7,7 +7,7 @@ use Rattle.std.specs.List.Sorted.{IsStrictlySortedBy}
 use Rattle.std.specs.Option.{is_some}
 use Rattle.std.specs.Ordering.{is_eq, nat_cmp, match_ordering}
 use Rattle.std.specs.declared.cmp.Ordering.{Ordering}
-use Rattle.std.specs.declared.cmp.Ordering.TheVariants.{Less, Equal, Greater}
+use Rattle.std.specs.declared.cmp.Ordering.TheVariants.{Less, Greater}
 use Rattle.std.proofs.lemmas.Cmp.{nat_cmp_total}
 use Rattle.std.proofs.lemmas.List.{length-map, length-reverse, nil_from_length}
 use Rattle.std.proofs.lemmas.Map.{lookup-none}
@@ -28,9 +28,7 @@ put_first : (o : Ordering) (t : ℕ) (w : Vec Lock) (e : ℕ × Vec Lock) (es fs
     → map shown fs ≡ rest
     → map shown (match_ordering o ((t, w) ∷ e ∷ es) ((e.0, w) ∷ es) (e ∷ fs))
     ≡ match_ordering o (shown (t, w) ∷ shown e ∷ map shown es) (shown (e.0, w) ∷ map shown es) (shown e ∷ rest)
-put_first Less t w e es fs rest h = refl
-put_first Equal t w e es fs rest h = refl
-put_first Greater t w e es fs rest h = ap (λ (v : LocksView). shown e ∷ v) h
+put_first o t w e es fs rest h = grind arith
 
 put : (t : ℕ) (w : Vec Lock) (es : List (ℕ × Vec Lock))
     → map shown (insert_entry nat_cmp es t w) ≡ insert_entry nat_cmp (map shown es) t (newest_first w.items)
@@ -39,8 +37,7 @@ put t w (e ∷ es) = put_first (nat_cmp t e.0) t w e es (insert_entry nat_cmp es
 
 out_first : (b : Bool) (e : ℕ × Vec Lock) (es fs : List (ℕ × Vec Lock)) (rest : LocksView) → map shown fs ≡ rest
     → map shown (cond b es (e ∷ fs)) ≡ cond b (map shown es) (shown e ∷ rest)
-out_first true e es fs rest h = refl
-out_first false e es fs rest h = ap (λ (v : LocksView). shown e ∷ v) h
+out_first b e es fs rest h = grind arith
 
 out : (test : ℕ → Bool) (es : List (ℕ × Vec Lock)) → map shown (remove_entry test es) ≡ remove_entry test (map shown es)
 out test [] = refl
@@ -50,9 +47,7 @@ out test (e ∷ es) = out_first (test e.0) e es (remove_entry test es) _ (out te
 over_first : (o : Ordering) (t : ℕ) (w : Vec Lock) (e : ℕ × Vec Lock) (es fs gs : List (ℕ × Vec Lock)) → (o ≡ Less → ⊥)
     → (o ≡ Greater → fs ≡ gs)
     → cond (is_eq o) ((e.0, w) ∷ es) (e ∷ fs) ≡ match_ordering o ((t, w) ∷ e ∷ es) ((e.0, w) ∷ es) (e ∷ gs)
-over_first Less t w e es fs gs low h = absurd (low refl)
-over_first Equal t w e es fs gs low h = refl
-over_first Greater t w e es fs gs low h = ap (λ (rest : List (ℕ × Vec Lock)). e ∷ rest) (h refl)
+over_first o t w e es fs gs low h = grind arith
 
 over : (t : ℕ) (v w : Vec Lock) (es : List (ℕ × Vec Lock)) → IsStrictlySortedBy nat_cmp (keys_of es)
     → lookup (is_at (nat_cmp t)) es ≡ Some v
@@ -68,8 +63,7 @@ over t v w (e ∷ es) sorted found =
 out_over_first : (b : Bool) (test : ℕ → Bool) (e : ℕ × Vec Lock) (w : Vec Lock) (es fs : List (ℕ × Vec Lock))
     → test e.0 ≡ b → remove_entry test fs ≡ remove_entry test es
     → remove_entry test (cond b ((e.0, w) ∷ es) (e ∷ fs)) ≡ cond b es (e ∷ remove_entry test es)
-out_over_first true test e w es fs is h = rw is refl
-out_over_first false test e w es fs is h = rw is (ap (λ (rest : List (ℕ × Vec Lock)). e ∷ rest) h)
+out_over_first b test e w es fs is h = grind arith
 
 out_over : (test : ℕ → Bool) (w : Vec Lock) (es : List (ℕ × Vec Lock))
     → remove_entry test (set_value test es w) ≡ remove_entry test es
@@ -79,8 +73,7 @@ out_over test w (e ∷ es) = out_over_first (test e.0) test e w es (set_value te
 -- a lock more
 more : (h : Held) (t : ℕ) (w : Vec Lock) (lock : Lock) → w.items ≡ locks_in h t ++ lock ∷ []
     → newest_first w.items ≡ span_of lock ∷ spans_of (seen h) t
-more h t w lock items = ap newest_first items ∙ newest (locks_in h t) lock
-    ∙ ap (λ spans. span_of lock ∷ spans) (sym (read h t))
+more h t w lock items = grind (arith, newest, read)
 
 pub taken_new : (old new : Held) (t : ℕ) (w : Vec Lock) (lock : Lock)
     → new.by_txn.entries ≡ insert_entry nat_cmp old.by_txn.entries t w → w.items ≡ locks_in old t ++ lock ∷ []
@@ -92,8 +85,7 @@ pub taken_over : (old new : Held) (t : ℕ) (v w : Vec Lock) (lock : Lock) → I
     → get nat_cmp old.by_txn t ≡ Some v
     → new.by_txn.entries ≡ set_value (is_at (nat_cmp t)) old.by_txn.entries w → w.items ≡ locks_in old t ++ lock ∷ []
     → seen new ≡ set_spans t (span_of lock ∷ spans_of (seen old) t) (seen old)
-taken_over old new t v w lock sorted found is items =
-    taken_new old new t w lock (is ∙ over t v w old.by_txn.entries sorted found) items
+taken_over old new t v w lock sorted found is items = grind (arith, taken_new, over)
 
 -- the newest lock less
 less : (h : Held) (t : ℕ) (left : List Lock) (lock : Lock) → locks_in h t ≡ left ++ lock ∷ []
@@ -101,8 +93,7 @@ less : (h : Held) (t : ℕ) (left : List Lock) (lock : Lock) → locks_in h t �
 less h t left lock was = sym (ap (drop 1) (read h t ∙ ap newest_first was ∙ newest left lock))
 
 set_some : (t : ℕ) (ss : List Span) (v : LocksView) → 0 < length ss → insert_entry nat_cmp v t ss ≡ set_spans t ss v
-set_some t [] v some = absurd (omega (arith, some))
-set_some t (s ∷ ss) v some = refl
+set_some t ss v some = grind arith
 
 pub untaken_some : (old new : Held) (t : ℕ) (v w : Vec Lock) (lock : Lock) → IsOrdered nat_cmp old.by_txn
     → get nat_cmp old.by_txn t ≡ Some v

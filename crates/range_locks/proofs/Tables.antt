@@ -5,7 +5,6 @@ use Rattle.std.specs.Map.{remove_entry}
 use Rattle.std.specs.Cmp.{ranks}
 use Rattle.std.specs.Ordering.{is_eq, nat_cmp, match_ordering, MatchOrdering}
 use Rattle.std.specs.declared.cmp.Ordering.{Ordering}
-use Rattle.std.specs.declared.cmp.Ordering.TheVariants.{Less, Equal, Greater}
 use Rattle.std.proofs.lemmas.Bool.{cases_lt, cases_eq}
 use Rattle.std.proofs.lemmas.Bool.Decides.{nat_tests}
 use Rattle.history.specs.Spans.{Span}
@@ -75,9 +74,7 @@ module _ (t : ℕ) (ss : List Span) where
   first_own : (o : Ordering) (e : ℕ × List Span) (es rest : LocksView) → MatchOrdering o (t < e.0) (t ≡ e.0) (e.0 < t)
       → spans_of rest t ≡ ss
       → spans_of (match_ordering o ((t, ss) ∷ e ∷ es) ((e.0, ss) ∷ es) (e ∷ rest)) t ≡ ss
-  first_own Less e es rest r later = here t (t, ss) (e ∷ es) refl
-  first_own Equal e es rest r later = here t (e.0, ss) es r
-  first_own Greater e es rest r later = there t e rest (λ same. omega (arith, same, r)) ∙ later
+  first_own o e es rest r later = grind arith
 
   listed_own : (v : LocksView) → spans_of (insert_entry nat_cmp v t ss) t ≡ ss
   listed_own [] = here t (t, ss) [] refl
@@ -86,24 +83,17 @@ module _ (t : ℕ) (ss : List Span) where
   first_other : (o : Ordering) (e : ℕ × List Span) (es rest : LocksView) (u : ℕ) → u ≢ t
       → MatchOrdering o (t < e.0) (t ≡ e.0) (e.0 < t) → spans_of rest u ≡ spans_of es u
       → spans_of (match_ordering o ((t, ss) ∷ e ∷ es) ((e.0, ss) ∷ es) (e ∷ rest)) u ≡ spans_of (e ∷ es) u
-  first_other Less e es rest u other r later = there u (t, ss) (e ∷ es) other
-  first_other Equal e es rest u other r later =
-      let apart : u ≢ e.0 = λ same. other (same ∙ sym r) in
-      there u (e.0, ss) es apart ∙ sym (there u e es apart)
-  first_other Greater e es rest u other r later = same_rest u e rest es later
+  first_other o e es rest u other r later = grind arith
 
   listed_other : (v : LocksView) (u : ℕ) → u ≢ t → spans_of (insert_entry nat_cmp v t ss) u ≡ spans_of v u
   listed_other [] u other = there u (t, ss) [] other
-  listed_other (e ∷ es) u other =
-      first_other (nat_cmp t e.0) e es (insert_entry nat_cmp es t ss) u other (ranks t e.0) (listed_other es u other)
+  listed_other (e ∷ es) u other = grind (arith, listed_other es u other, first_other)
 
   first_rises : (o : Ordering) (low : ℕ) (e : ℕ × List Span) (es rest : LocksView)
       → MatchOrdering o (t < e.0) (t ≡ e.0) (e.0 < t) → ss ≢ [] → low ≤ t → RisesFrom low (e ∷ es)
       → (e.0 < t → RisesFrom (suc e.0) rest)
       → RisesFrom low (match_ordering o ((t, ss) ∷ e ∷ es) ((e.0, ss) ∷ es) (e ∷ rest))
-  first_rises Less low e es rest r some from h later = (from, some, (omega (arith, r), h.1, h.2))
-  first_rises Equal low e es rest r some from h later = (h.0, some, h.2)
-  first_rises Greater low e es rest r some from h later = (h.0, h.1, later r)
+  first_rises o low e es rest r some from h later = grind arith
 
   listed_rises : (low : ℕ) (v : LocksView) → ss ≢ [] → low ≤ t → RisesFrom low v
       → RisesFrom low (insert_entry nat_cmp v t ss)
@@ -116,24 +106,18 @@ module _ (t : ℕ) (ss : List Span) where
 module _ (t : ℕ) where
   unlisted_own : (low : ℕ) (v : LocksView) → RisesFrom low v → spans_of (remove_entry (is_at (nat_cmp t)) v) t ≡ []
   unlisted_own low [] h = refl
-  unlisted_own low (e ∷ es) h = elim (cases_eq t e.0) [
-    | inl same ↦ rw (one_number t e.0 same) (unlisted (suc e.0) es t h.2 (omega (arith, same)))
-    | inr other ↦ rw (two_numbers t e.0 other) (there t e _ other ∙ unlisted_own (suc e.0) es h.2)
-  ]
+  unlisted_own low (e ∷ es) h =
+      grind (arith, unlisted_own (suc e.0) es h.2, cases_eq, one_number, unlisted, two_numbers, there)
 
   unlisted_other : (v : LocksView) (u : ℕ) → u ≢ t → spans_of (remove_entry (is_at (nat_cmp t)) v) u ≡ spans_of v u
   unlisted_other [] u other = refl
-  unlisted_other (e ∷ es) u other = elim (cases_eq t e.0) [
-    | inl same ↦ rw (one_number t e.0 same) (sym (there u e es (λ is. other (is ∙ sym same))))
-    | inr apart ↦ rw (two_numbers t e.0 apart) (same_rest u e _ es (unlisted_other es u other))
-  ]
+  unlisted_other (e ∷ es) u other =
+      grind (arith, unlisted_other es u other, cases_eq, one_number, there, two_numbers, same_rest)
 
   unlisted_rises : (low : ℕ) (v : LocksView) → RisesFrom low v → RisesFrom low (remove_entry (is_at (nat_cmp t)) v)
   unlisted_rises low [] h = tt
-  unlisted_rises low (e ∷ es) h = elim (cases_eq t e.0) [
-    | inl same ↦ rw (one_number t e.0 same) (rises_lower low (suc e.0) es (omega (arith, h.0)) h.2)
-    | inr other ↦ rw (two_numbers t e.0 other) (h.0, h.1, unlisted_rises (suc e.0) es h.2)
-  ]
+  unlisted_rises low (e ∷ es) h =
+      grind (arith, unlisted_rises (suc e.0) es h.2, cases_eq, one_number, rises_lower, two_numbers)
 
 some_span : (s : Span) (ss : List Span) → s ∷ ss ≢ []
 some_span s ss none = omega (arith, ap length none)

@@ -14,7 +14,7 @@ use Rattle.history.specs.declared.record.Record.TheVariants as is
 use Rattle.history.specs.History.{Entry, plain, placed}
 use Rattle.history.specs.Log.{record_at, answer_of, is_crossed, IsOpen, IsOpBy, hist}
 use Rattle.history.specs.Legal.{IsLegal}
-use Rattle.history.specs.Values.{is_on, HasRightAnswers}
+use Rattle.history.specs.Values.{HasRightAnswers}
 use Rattle.history.specs.ListMachine.{Machine, Txn, Open, Waiting, TellsAnswer, with_txn}
 use Rattle.log_laws.proofs.Records.{op_same, both_same}
 use Rattle.log_laws.proofs.LegalLogs.{op_number, kept_begun}
@@ -63,40 +63,12 @@ pub record IsHarmless (p : Entry → Bool) (k : Bytes) (e : Entry) : Type 0 wher
 pub plain_filtered : (p : Entry → Bool) (k : Bytes) (h : List Entry) → AllByRecursion (IsHarmless p k) h
     → get (plain (filter p h)) k ≡ get (plain h) k
 plain_filtered p k [] all = refl
-plain_filtered p k (e ∷ h) all = by (p e) refl (plain_filtered p k h all.1)
-  where
-    crossed_rest : get (plain (filter p h)) k ≡ get (plain h) k → (e.crossed ≡ true) ⊎ (k ≢ key_of e.op)
-        → get (plain (filter p h)) k ≡ get (if e.crossed then plain h else after (plain h) e.op) k
-    crossed_rest rest (inl c) = rest ∙ sym (ap (λ b. get (if b then plain h else after (plain h) e.op) k) c)
-    crossed_rest rest (inr apart) = rest ∙ pick e.crossed
-      where
-        pick : (b : Bool) → get (plain h) k ≡ get (if b then plain h else after (plain h) e.op) k
-        pick true = refl
-        pick false = sym (get-with_record_other (plain h) (key_of e.op) k
-            (value_after e.op (get (plain h) (key_of e.op))) apart)
-
-    by : (b : Bool) → p e ≡ b → get (plain (filter p h)) k ≡ get (plain h) k
-        → get (plain (cond b (e ∷ filter p h) (filter p h))) k
-        ≡ get (if e.crossed then plain h else after (plain h) e.op) k
-    by true keeps rest =
-        let c = all.0.stays keeps in
-        ap (λ b. get (if b then plain (filter p h) else after (plain (filter p h)) e.op) k) c
-        ∙ same_after (plain (filter p h)) (plain h) e.op k rest
-        ∙ sym (ap (λ b. get (if b then plain h else after (plain h) e.op) k) c)
-    by false drops rest = crossed_rest rest (all.0.out drops)
+plain_filtered p k (e ∷ h) all = grind (arith, plain_filtered p k h all.1, get-with_record_other, same_after)
 
 -- the same where what an Add sees is asked, and the filter may take Adds too
 seen_op : (m n : Table) (o : Op) (k : Bytes) → SeenAlike (get m k) (get n k)
     → SeenAlike (get (after m o) k) (get (after n o) k)
-seen_op m n o k h =
-    subst (λ v. SeenAlike v (get (after n o) k)) (sym (get-after k m o (get m k) refl))
-    (subst (SeenAlike (if is_on k o then value_after o (get m k) else get m k)) (sym (get-after k n o (get n k) refl))
-    (pick (is_on k o)))
-  where
-    pick : (b : Bool)
-        → SeenAlike (if b then value_after o (get m k) else get m k) (if b then value_after o (get n k) else get n k)
-    pick true = seen_after o (get m k) (get n k) h
-    pick false = h
+seen_op m n o k h = grind (arith, get-after, seen_after)
 
 -- at an operation's key, a filter takes only crossed entries, and those of other keys, and Adds where it is one
 pub record IsHarmlessTo (p : Entry → Bool) (o : Op) (e : Entry) : Type 0 where
@@ -107,37 +79,12 @@ pub record IsHarmlessTo (p : Entry → Bool) (o : Op) (e : Entry) : Type 0 where
 seen_taken : (v : Option Bytes) (m : Table) (e : Entry) (o : Op)
     → (e.crossed ≡ true) ⊎ ((key_of o ≢ key_of e.op) ⊎ AreAdds o e.op) → SeenAlike v (get m (key_of o))
     → SeenAlike v (get (if e.crossed then m else after m e.op) (key_of o))
-seen_taken v m e o why h = pick e.crossed why
-  where
-    on : (b : Bool) → is_on (key_of o) e.op ≡ b → (key_of o ≢ key_of e.op) ⊎ AreAdds o e.op
-        → SeenAlike v (if b then value_after e.op (get m (key_of o)) else get m (key_of o))
-    on true is (inl apart) = absurd (apart (is_same-true (key_of o) (key_of e.op) is))
-    on true is (inr both) = seen_right e.op v (get m (key_of o)) both.1 h
-    on false is _ = h
-
-    pick : (c : Bool) → (c ≡ true) ⊎ ((key_of o ≢ key_of e.op) ⊎ AreAdds o e.op)
-        → SeenAlike v (get (if c then m else after m e.op) (key_of o))
-    pick true why = h
-    pick false (inl c) = absurd (true≢false (sym c))
-    pick false (inr why) =
-        subst (SeenAlike v) (sym (get-after (key_of o) m e.op (get m (key_of o)) refl))
-        (on (is_on (key_of o) e.op) refl why)
+seen_taken v m e o why h = grind (arith, is_same-true, seen_right, get-after)
 
 seen_filtered : (p : Entry → Bool) (o : Op) (h : List Entry) → AllByRecursion (IsHarmlessTo p o) h
     → SeenAlike (get (plain (filter p h)) (key_of o)) (get (plain h) (key_of o))
 seen_filtered p o [] all = seen_same (get (plain []) (key_of o))
-seen_filtered p o (e ∷ h) all = by (p e) refl (seen_filtered p o h all.1)
-  where
-    by : (b : Bool) → p e ≡ b → SeenAlike (get (plain (filter p h)) (key_of o)) (get (plain h) (key_of o))
-        → SeenAlike (get (plain (cond b (e ∷ filter p h) (filter p h))) (key_of o))
-        (get (if e.crossed then plain h else after (plain h) e.op) (key_of o))
-    by true keeps rest =
-        let c = all.0.stays keeps in
-        let P : Bool → Type 0 = λ b. SeenAlike
-        (get (if b then plain (filter p h) else after (plain (filter p h)) e.op) (key_of o))
-        (get (if b then plain h else after (plain h) e.op) (key_of o)) in
-        subst P (sym c) (seen_op (plain (filter p h)) (plain h) e.op (key_of o) rest)
-    by false drops rest = seen_taken (get (plain (filter p h)) (key_of o)) (plain h) e o (all.0.out drops) rest
+seen_filtered p o (e ∷ h) all = grind (arith, seen_filtered p o h all.1, seen_op, seen_taken)
 
 -- so the operation is answered alike
 pub answer_filtered : (p : Entry → Bool) (o : Op) (h : List Entry) → AllByRecursion (IsHarmlessTo p o) h

@@ -35,9 +35,7 @@ abbrev Counts : View → Entry → Type 0
 Counts v e = (v.loses e.txn ≡ false) × (is_crossed v.log e.number ≡ false)
 
 counts_so : (c l d : Bool) → (not c && (not l && not d)) ≡ true → (l ≡ false) × (c ≡ false)
-counts_so true l d h = absurd (true≢false (sym h))
-counts_so false true d h = absurd (true≢false (sym h))
-counts_so false false d h = (refl, refl)
+counts_so c l d h = grind arith
 
 all_counted : (v : View) (h : List Entry) → AllByRecursion (λ e. e.crossed ≡ is_crossed v.log e.number) h
     → AllByRecursion (Counts v) (filter (counts v) h)

@@ -1,7 +1,7 @@
 -- What a beginning of a log has of the whole.
-use Rattle.std.proofs.Common.{◌≡◌, ℕ, ◌+◌, ◌<◌, ◌≤◌, Bool, true, false, cond, List, [], ◌∷◌, ◌++◌, length, length-append, Option, Some, None, IsSome, is_some, refl, sym, ap, ◌∙◌, subst, arith, inl, inr, ◌⊎◌, true≢false, ne_eqb}
+use Rattle.std.proofs.Common.{rules, ◌≡◌, ℕ, ◌+◌, ◌<◌, ◌≤◌, Bool, true, false, List, [], ◌∷◌, ◌++◌, length, length-append, Option, Some, None, IsSome, refl, sym, ap, ◌∙◌, subst, arith, inl, inr, ◌⊎◌, true≢false}
 use Rattle.std.specs.Prelude.{◌&&◌, not}
-use Rattle.std.proofs.lemmas.Bool.{cases_eq, cases_lt, cases_Bool}
+use Rattle.std.proofs.lemmas.Bool.{cases_lt, cases_Bool}
 use Rattle.record_key.specs.declared.op.Op.{Op}
 use Rattle.history.specs.declared.record.Record.{Record}
 use Rattle.history.specs.declared.record.Record.TheVariants as is
@@ -37,11 +37,11 @@ end_at (r ∷ log) t h =
     elim (ended_cases t r log h) [
       | inl ago ↦
           let was = end_at log t ago in
-          record {
-            end = was.end;
-            is_end = at_older (AnEnd t) r log was.end
-                (not_newest log was.end (end_number log t was.end was.is_end)) was.is_end;
-          }
+          search (
+            rules,
+            arith,
+            at_older (AnEnd t) r log was.end (not_newest log was.end (end_number log t was.end was.is_end)) was.is_end,
+          )
       | inr now ↦ record { end = length log + 1; is_end = at_newest (AnEnd t) r log (length log + 1) refl (some now) }
     ]
   where
@@ -51,16 +51,11 @@ end_at (r ∷ log) t h =
 
 -- where an end fits, nothing ended the transaction before
 end_open : (r : Record) (log : List Record) (t : ℕ) → Fits log r → AnEnd t (Some r) → IsOpen log t
-end_open r log t fits (inl e) = let same : r ≡ is.Commit t = cc in (subst (Fits log) same fits).open_txn
-end_open r log t fits (inr e) = let same : r ≡ is.End t = cc in (subst (Fits log) same fits).open_txn
+end_open r log t fits h = grind arith
 
 -- so it has one end
 pub one_end : (log : List Record) (t n m : ℕ) → IsLegal log → IsEndOf log t n → IsEndOf log t m → n ≡ m
-one_end [] t n m legal p q = absurd (none p)
-  where
-    none : AnEnd t None → ⊥
-    none (inl e) = cc
-    none (inr e) = cc
+one_end [] t n m legal p q = grind arith
 one_end (r ∷ log) t n m legal p q =
     elim (which r log n (end_number (r ∷ log) t n p)) [
       | inl e ↦ elim (which r log m (end_number (r ∷ log) t m q)) [
@@ -99,13 +94,7 @@ pub record IsSettledOp (newer older : List Record) (n : ℕ) : Type 0 where
 
 answer_stays : (r : Record) (log : List Record) (n : ℕ) → Fits log r → IsSome (answer_of log n)
     → answer_of (r ∷ log) n ≡ answer_of log n
-answer_stays (is.Answer m a) log n fits some =
-    elim (cases_eq n m) [
-      | inl e ↦ absurd (true≢false
-          (sym some ∙ ap (λ (k : ℕ). is_some (answer_of log k)) e ∙ ap is_some fits.unanswered))
-      | inr apart ↦ ap (λ (b : Bool). cond b (Some a) (answer_of log n)) (ne_eqb n m apart)
-    ]
-answer_stays _ log n fits some = refl
+answer_stays r log n fits some = grind arith
 
 -- an operation of the beginning is one of the whole
 pub op_longer : (newer older : List Record) (n t : ℕ) (o : Op) → IsOpBy older n t o → IsOpBy (newer ++ older) n t o
@@ -125,12 +114,15 @@ settled_in : (newer older : List Record) (n t : ℕ) (o : Op) → IsLegal (newer
     → has_ended older t ≡ true → IsSome (answer_of older n) → IsSettledOp newer older n
 settled_in [] older n t o legal by ended some = record { answer = refl; crossed = refl }
 settled_in (r ∷ newer) older n t o legal by ended some =
-    let rest = settled_in newer older n t o legal.1 by ended some in
-    record {
-      answer = answer_stays r (newer ++ older) n legal.0 (answered_longer newer older n some) ∙ rest.answer;
-      crossed = ended_crosses_none r (newer ++ older) n t o legal.0 (op_longer newer older n t o by)
-          (ended_longer newer older t ended) ∙ rest.crossed;
-    }
+    grind (
+      arith,
+      settled_in newer older n t o legal.1 by ended some,
+      answer_stays,
+      answered_longer,
+      ended_crosses_none,
+      op_longer,
+      ended_longer,
+    )
 
 pub settled_op : (newer older : List Record) (n t : ℕ) (o : Op) → IsLegal (newer ++ older) → IsOpBy older n t o
     → has_ended older t ≡ true → IsSettledOp newer older n

@@ -63,18 +63,7 @@ module _ (v : View) (m : Machine) (legal : IsLegal v.log) (stands : StandsFor v 
       ]
 
   begin_passes : (u : ℕ) → (u ≡ new_txn → ⊥) → Passes v (after_begin v) is.Begin u
-  begin_passes u apart = record {
-    log = refl;
-    stable = refl;
-    loses = refl;
-    doing = put_other v.doing new_txn (Some Ready) u apart;
-    saves = put_other v.saves new_txn [] u apart;
-    spans = put_other v.spans new_txn [] u apart;
-    no_op = λ o e. cc;
-    no_end = refl;
-    no_begin = λ at e. apart at;
-    waits = λ n o by d none. none;
-  }
+  begin_passes u apart = grind arith
 
   begins_so : LeadsOn v m (Begins (length v.log + 1)) (after_begin v)
   begins_so = (

@@ -1,5 +1,5 @@
 -- A transaction that a change leaves alone.
-use Rattle.std.proofs.Common.{◌≡◌, ℕ, ◌+◌, ◌<◌, ◌≤◌, Bool, true, false, List, [], ◌∷◌, length, Some, None, sym, ◌∙◌, subst, arith, inl, inr, eq-eqb, ne_eqb}
+use Rattle.std.proofs.Common.{◌≡◌, ℕ, ◌+◌, ◌<◌, ◌≤◌, Bool, true, List, [], ◌∷◌, length, Some, None, sym, ◌∙◌, subst, arith, inl, inr, eq-eqb, ne_eqb}
 use Rattle.std.specs.Prelude.{◌↔◌, if◌then◌else◌}
 use Rattle.std.proofs.lemmas.Bool.{cases_eq}
 use Rattle.record_key.specs.declared.op.Op.{Op}
@@ -8,10 +8,10 @@ use Rattle.history.specs.declared.record.Record.TheVariants as is
 use Rattle.history.specs.History.{Entry}
 use Rattle.history.specs.Spans.{Span}
 use Rattle.history.specs.Log.{record_at, answer_of, has_ended, op_of, IsOpen, IsOpBy}
-use Rattle.history.specs.ListMachine.{Machine, Txn, Status, Open, Waiting, Reading, Rolling, Committing, Committed, Losing, Gone, with_txn}
+use Rattle.history.specs.ListMachine.{Machine, Txn, Status, with_txn}
 use Rattle.log_laws.proofs.Records.{AnOp, within, older_at, newest_at, kept_at, had_at, which}
 use Rattle.log_laws.proofs.LegalLogs.{kept_begun, op_number}
-use Rattle.simulation.specs.View.{View, Doing, Awaits, IsActive, IsQuiet, IsCommitAt, HasStatusOf, HasSaves, HasSavesOf, Remembers, HoldsAs, HasEntry, IsFreeOf, IsUnentered, IsAmong, IsTxnOf}
+use Rattle.simulation.specs.View.{View, Doing, Awaits, IsActive, IsQuiet, IsCommitAt, HasStatusOf, HasSaves, HasSavesOf, Remembers, HoldsAs, HasEntry, IsFreeOf, IsUnentered, IsTxnOf}
 
 -- what a change of the component must leave of a transaction
 pub record Carries (v w : View) (u : ℕ) : Type 0 where
@@ -48,71 +48,28 @@ module _ (v w : View) (u : ℕ) (c : Carries v w u) where
   quiet b q = record { does_none = c.doing ∙ q.does_none; loses_so = c.loses ∙ q.loses_so }
 
   status_kept : (s : Status) → HasStatusOf v u s → HasStatusOf w u s
-  status_kept Open so = active _ so
-  status_kept (Waiting n o) so = (active _ so.0, c.op_kept n o so.1, c.waits n o so.1 so.0.does so.2)
-  status_kept (Reading r) so = active _ so
-  status_kept (Rolling p) so = (so.0, active _ so.1)
-  status_kept Committing so = (quiet false so.0, so.1, c.commit so.1 so.2, c.unstable so.1 so.2 so.3)
-  status_kept Committed so = (quiet false so.0, so.1, c.commit so.1 so.2, omega (arith, so.3, c.stable))
-  status_kept Losing so = record {
-    quiet = quiet true so.quiet;
-    open_txn = c.goes_on so.open_txn;
-    stable = omega (arith, so.stable, c.stable);
-    found = λ n o by. omega (arith, so.found n o (c.op_had n o by), c.stable);
-  }
-  status_kept Gone so = (
-    quiet false so.0,
-    elim so.1 [ inl e ↦ inl (e.0, c.end e.0 e.1) | inr none ↦ inr (λ at. none (c.begun.1 at)) ],
-  )
+  status_kept s so = grind arith
 
   spans_kept : (s : Status) (xs : List Span) → HoldsAs v u s xs → HoldsAs w u s xs
-  spans_kept Open xs h = subst (λ ys. (s : Span) → (IsAmong s xs → IsAmong s ys) × (IsAmong s ys → IsAmong s xs))
-      (sym c.spans) h
-  spans_kept (Waiting n o) xs h =
-      subst (λ ys. (s : Span) → (IsAmong s xs → IsAmong s ys) × (IsAmong s ys → IsAmong s xs)) (sym c.spans) h
-  spans_kept (Reading r) xs h =
-      subst (λ ys. (s : Span) → (IsAmong s xs → IsAmong s ys) × (IsAmong s ys → IsAmong s xs)) (sym c.spans) h
-  spans_kept (Rolling p) xs h =
-      subst (λ ys. (s : Span) → (IsAmong s xs → IsAmong s ys) × (IsAmong s ys → IsAmong s xs)) (sym c.spans) h
-  spans_kept Committing xs h =
-      subst (λ ys. (s : Span) → (IsAmong s xs → IsAmong s ys) × (IsAmong s ys → IsAmong s xs)) (sym c.spans) h
-  spans_kept Committed xs h = h
-  spans_kept Losing xs h = record {
-    each = λ s among. let own = h.each s among in (own.0, own.1, c.op_kept own.0 own.1 own.2, own.3);
-    all = λ n o by. h.all n o (c.op_had n o by);
-  }
-  spans_kept Gone xs h = h
+  spans_kept s xs h = grind arith
 
   module _ (h g : List Entry) (e : CarriesEntries v.log h g u) where
     each_save : (low high : ℕ) (saves : List (List ℕ)) (ends : List ℕ) → low ≤ high → HasSaves h u low saves ends
         → HasSaves g u high saves ends
     each_save low high [] [] le has = tt
-    each_save low high (kept ∷ saves) (end ∷ ends) le has =
-        (e.remembers kept end has.0, omega (arith, has.1, le), each_save low high saves ends le has.2)
+    each_save low high (kept ∷ saves) (end ∷ ends) le has = grind (arith, each_save low high saves ends le has.2)
     each_save low high [] (end ∷ ends) le has = absurd has
     each_save low high (kept ∷ saves) [] le has = absurd has
 
     open_saves : (low high : ℕ) (saves : List (List ℕ)) → low ≤ high → HasSaves h u low saves (v.saves u)
         → HasSaves g u high saves (w.saves u)
-    open_saves low high saves le has =
-        subst (HasSaves g u high saves) (sym c.saves) (each_save low high saves (v.saves u) le has)
+    open_saves low high saves le has = grind (arith, each_save)
 
     saves_kept : (s : Status) (saves : List (List ℕ)) → HasSavesOf v h u s saves → HasSavesOf w g u s saves
-    saves_kept Open saves has = open_saves (length v.log + 1) (length w.log + 1) saves (omega (arith, c.longer)) has
-    saves_kept (Waiting n o) saves has = open_saves n n saves (omega arith) has
-    saves_kept (Reading r) saves has =
-        open_saves (length v.log + 1) (length w.log + 1) saves (omega (arith, c.longer)) has
-    saves_kept (Rolling None) saves has = tt
-    saves_kept (Rolling (Some p)) saves has =
-        open_saves (length v.log + 1) (length w.log + 1) saves (omega (arith, c.longer)) has
-    saves_kept Committing saves has = tt
-    saves_kept Committed saves has = tt
-    saves_kept Losing saves has = tt
-    saves_kept Gone saves has = tt
+    saves_kept s saves has = grind (arith, open_saves)
 
     unentered_kept : (s : Status) → HasStatusOf v u s → IsUnentered h s → IsUnentered g s
-    unentered_kept (Waiting n o) so all = e.unentered n o so.1 all
-    unentered_kept _ so all = tt
+    unentered_kept s so all = grind arith
 
     pub txn_kept : (x : Txn) → IsTxnOf v h u x → IsTxnOf w g u x
     txn_kept x so = record {
@@ -154,14 +111,7 @@ op_after r log u n o by = kept_at (AnOp u o) r log n (op_number log n u o by) by
 -- a record that isn't its Begin leaves it begun or not
 pub begin_kept : (r : Record) (log : List Record) (u : ℕ) → (u ≡ length log + 1 → r ≡ is.Begin → ⊥)
     → (record_at log u ≡ Some is.Begin) ↔ (record_at (r ∷ log) u ≡ Some is.Begin)
-begin_kept r log u none = (
-  kept_begun r log u,
-  λ at. elim (cases_eq u (length log + 1)) [
-    | inl e ↦ absurd (none e
-        (let same : Some r ≡ Some is.Begin = newest_at (λ x. x ≡ Some is.Begin) r log u e at in cc))
-    | inr e ↦ older_at (λ x. x ≡ Some is.Begin) r log u e at
-  ],
-)
+begin_kept r log u none = grind (arith, kept_begun, cases_eq, newest_at, older_at)
 
 pub begun_so : (r : Record) (log : List Record) (u : ℕ) (b : Bool) → (r ≡ is.Begin → ⊥)
     → (b ≡ true) ↔ (record_at log u ≡ Some is.Begin)

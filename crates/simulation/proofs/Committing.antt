@@ -1,15 +1,15 @@
 -- Whoever isn't gone has begun, and who has committed.
-use Rattle.std.proofs.Common.{◌≡◌, ◌≢◌, ℕ, ◌≤◌, Bool, true, false, List, [], ◌∷◌, Some, refl, sym, ap, ◌∙◌, subst, arith, inl, inr, ◌⊎◌, eqb-true, eq-eqb, true≢false}
-use Rattle.std.specs.Prelude.{◌==◌, ◌&&◌, filter, not, if◌then◌else◌}
+use Rattle.std.proofs.Common.{◌≡◌, ◌≢◌, ℕ, ◌≤◌, Bool, true, List, [], ◌∷◌, Some, refl, sym, ap, ◌∙◌, subst, arith, inl, inr, ◌⊎◌, true≢false}
+use Rattle.std.specs.Prelude.{◌==◌, ◌&&◌, filter, not}
 use Rattle.history.specs.declared.record.Record.TheVariants as is
 use Rattle.history.specs.History.{Entry, entries_of}
 use Rattle.history.specs.Log.{record_at, has_ended, hist}
 use Rattle.history.specs.Legal.{IsLegal}
-use Rattle.history.specs.ListMachine.{Machine, Txn, Status, Open, Waiting, Reading, Rolling, Committing, Committed, Losing, Gone, Line, Begins, Acts, TellsAnswer, Reads, TellsRow, TellsRows, Saves, GoesBack, TellsBack, RollsBack, TellsRolledBack, Commits, TellsCommitted, Crashes, TellsLost, IsRefused, HasStatus, Falls, Survives, Step, Steps, fresh, with_txn, ended}
+use Rattle.history.specs.ListMachine.{Machine, Txn, Status, Open, Waiting, Reading, Rolling, Committing, Committed, Losing, Gone, Line, HasStatus, Falls, Survives, Step, Steps, fresh, with_txn, ended}
 use Rattle.log_laws.proofs.Strict.{end_ends}
 use Rattle.log_laws.proofs.Named.{ended_begun}
-use Rattle.simulation.specs.View.{View, HasStatusOf, IsCommitAt, counts, is_to_undo, standing, StandsFor}
-use Rattle.simulation.specs.Lasting.{HasCommitted, IsBegunOrGone, EachHasBegun, RunsHaveBegun, StoodForHaveBegun, ToldIsCommitted, StableIsCommitted}
+use Rattle.simulation.specs.View.{View, HasStatusOf, IsCommitAt, counts, standing, StandsFor}
+use Rattle.simulation.specs.Lasting.{IsBegunOrGone, EachHasBegun, RunsHaveBegun, StoodForHaveBegun, ToldIsCommitted, StableIsCommitted}
 use Rattle.simulation.proofs.Beginnings.{one_end}
 use Rattle.simulation.proofs.Entries.{filter_twice}
 
@@ -17,58 +17,20 @@ use Rattle.simulation.proofs.Entries.{filter_twice}
 begun_with : (m n : Machine) (u : ℕ) (x : Txn) (g : List Entry) → EachHasBegun m → IsBegunOrGone x
     → n ≡ record (with_txn m u x) { h = g }
     → EachHasBegun n
-begun_with m n u x g each new is = subst EachHasBegun (sym is) (λ t. pick t (t == u))
-  where
-    pick : (t : ℕ) (b : Bool) → IsBegunOrGone (if b then x else m.txns t)
-    pick t true = new
-    pick t false = each t
+begun_with m n u x g each new h = grind arith
 
 had_begun : (m : Machine) (u : ℕ) (s : Status) → EachHasBegun m → HasStatus m u s → s ≢ Gone → (m.txns u).begun ≡ true
 had_begun m u s each at here = elim (each u) [ inl b ↦ b | inr g ↦ absurd (here (sym at ∙ g)) ]
 
 falls_begun : (m : Machine) (bound t : ℕ) (new : Txn) → Falls m bound t new → IsBegunOrGone new
-falls_begun m bound t new (inl k) = inl (ap (λ x. x.begun) k.1)
-falls_begun m bound t new (inr b) = inr (ap (λ x. x.status) b.1)
+falls_begun m bound t new h = grind arith
 
 survives_begun : (m : Machine) (bound t : ℕ) (s : Status) (new : Txn) (fell : Bool) → HasStatus m t s → EachHasBegun m
     → Survives m bound t s new fell → IsBegunOrGone new
-survives_begun m bound t Open new fell at each h = falls_begun m bound t new h.0
-survives_begun m bound t (Waiting n o) new fell at each h = falls_begun m bound t new h.0
-survives_begun m bound t (Reading q) new fell at each h = falls_begun m bound t new h.0
-survives_begun m bound t (Rolling p) new fell at each h = falls_begun m bound t new h.0
-survives_begun m bound t Committing new fell at each (inl h) =
-    inl (ap (λ x. x.begun) h.0 ∙ had_begun m t Committing each at (λ e. cc))
-survives_begun m bound t Committing new fell at each (inr h) = falls_begun m bound t new h.0
-survives_begun m bound t Committed new fell at each h = subst IsBegunOrGone (sym h.0.0) (each t)
-survives_begun m bound t Losing new fell at each h = subst IsBegunOrGone (sym h.0.0) (each t)
-survives_begun m bound t Gone new fell at each h =
-    elim (h.0) [
-      | inl stays ↦ subst IsBegunOrGone (sym stays.0) (each t)
-      | inr falls ↦ falls_begun m bound t new falls.1
-    ]
+survives_begun m bound t s new fell at each h = grind arith
 
 begun_step : (m n : Machine) (line : Line) → Step m line n → EachHasBegun m → EachHasBegun n
-begun_step m n (Begins u) h each = begun_with m n u _ _ each (inl refl) h.1
-begun_step m n (Acts u o k) h each = begun_with m n u _ _ each (inl (had_begun m u Open each h.0 (λ e. cc))) h.4
-begun_step m n (TellsAnswer u a) h each =
-    begun_with m n u _ _ each (inl (had_begun m u (Waiting h.0 h.1) each h.2 (λ e. cc))) h.4
-begun_step m n (Reads u q) h each = begun_with m n u _ _ each (inl (had_begun m u Open each h.0 (λ e. cc))) h.3
-begun_step m n (TellsRow u value) h each =
-    begun_with m n u _ _ each (inl (had_begun m u (Reading _) each h.1 (λ e. cc))) h.3
-begun_step m n (TellsRows u rows) h each =
-    begun_with m n u _ _ each (inl (had_begun m u (Reading _) each h.2 (λ e. cc))) h.4
-begun_step m n (Saves u s) h each = begun_with m n u _ _ each (inl (had_begun m u Open each h.0 (λ e. cc))) h.3
-begun_step m n (GoesBack u s) h each = begun_with m n u _ _ each (inl (had_begun m u Open each h.1 (λ e. cc))) h.4
-begun_step m n (TellsBack u s) h each =
-    begun_with m n u _ _ each (inl (had_begun m u (Rolling _) each h.0 (λ e. cc))) h.1
-begun_step m n (RollsBack u) h each = begun_with m n u _ _ each (inl (had_begun m u Open each h.0 (λ e. cc))) h.1
-begun_step m n (TellsRolledBack u) h each = begun_with m n u _ _ each (inr refl) h.1
-begun_step m n (Commits u) h each = begun_with m n u _ _ each (inl (had_begun m u Open each h.0 (λ e. cc))) h.1
-begun_step m n (TellsCommitted u) h each =
-    begun_with m n u _ _ each (inl (had_begun m u Committing each h.0 (λ e. cc))) h.1
-begun_step m n Crashes h each = λ t. survives_begun m h.1 t (m.txns t).status (n.txns t) (h.0 t) refl each (h.2 t)
-begun_step m n (TellsLost u) h each = begun_with m n u _ _ each (inr refl) h.1
-begun_step m n (IsRefused call refusal) h each = subst EachHasBegun (sym h.1) each
+begun_step m n line h each = grind arith
 
 begun_steps : (m n : Machine) (lines : List Line) → Steps m lines n → EachHasBegun m → EachHasBegun n
 begun_steps m n [] steps each = subst EachHasBegun (sym steps) each
@@ -80,31 +42,14 @@ runs_have_begun m lines steps = begun_steps fresh m lines steps (λ t. inr refl)
 -- the Begin stands of whoever isn't gone
 begins_or_gone : (v : View) (t : ℕ) (s : Status) → IsLegal v.log → HasStatusOf v t s
     → (record_at v.log t ≡ Some is.Begin) ⊎ (s ≡ Gone)
-begins_or_gone v t Open legal so = inl so.open_txn.begun
-begins_or_gone v t (Waiting n o) legal so = inl so.0.open_txn.begun
-begins_or_gone v t (Reading q) legal so = inl so.open_txn.begun
-begins_or_gone v t (Rolling p) legal so = inl so.1.open_txn.begun
-begins_or_gone v t Committing legal so = inl (ended_begun v.log t legal (end_ends v.log t so.1 (inl so.2)))
-begins_or_gone v t Committed legal so = inl (ended_begun v.log t legal (end_ends v.log t so.1 (inl so.2)))
-begins_or_gone v t Losing legal so = inl so.open_txn.begun
-begins_or_gone v t Gone legal so = inr refl
+begins_or_gone v t s legal so = grind (arith, ended_begun, end_ends)
 
 pub stood_for_have_begun : StoodForHaveBegun
-stood_for_have_begun v m legal stands t =
-    elim (begins_or_gone v t (m.txns t).status legal (stands.each t).status) [
-      | inl b ↦ inl ((stands.each t).begun.1 b)
-      | inr g ↦ inr g
-    ]
+stood_for_have_begun v m legal stands t = grind (arith, begins_or_gone)
 
 -- told so
 pub told_is_committed : ToldIsCommitted
-told_is_committed m n t each h =
-    let begun = had_begun m t Committing each h.0 (λ e. cc) in
-    subst (λ y. HasCommitted y t (entries_of t m.h)) (sym h.1) (record {
-      begun = ap (λ (b : Bool). (if b then ended (m.txns t) Committed else m.txns t).begun) (eq-eqb t t refl) ∙ begun;
-      status = ap (λ (b : Bool). (if b then ended (m.txns t) Committed else m.txns t).status) (eq-eqb t t refl);
-      own_is = refl;
-    })
+told_is_committed m n t each h = grind arith
 
 -- by its log
 committed_is : (v : View) (t k : ℕ) (s : Status) → IsLegal v.log → IsCommitAt v.log t k → k ≤ v.stable
@@ -129,10 +74,7 @@ committed_is v t k s legal at stable so = by s so (end_ends v.log t k (inl at))
 
 -- two filters in either order
 both_ways : (a b : Bool) → (a && b) ≡ (b && a)
-both_ways true true = refl
-both_ways true false = refl
-both_ways false true = refl
-both_ways false false = refl
+both_ways a b = grind arith
 
 filter_both : (p q : Entry → Bool) (h : List Entry) → filter p (filter q h) ≡ filter q (filter p h)
 filter_both p q h =
@@ -141,18 +83,7 @@ filter_both p q h =
 -- of whoever neither loses nor rolls back the entries count that stand
 counts_own : (v : View) (t : ℕ) (e : Entry) → HasStatusOf v t Committed
     → ((e.txn == t) && counts v e) ≡ ((e.txn == t) && not e.crossed)
-counts_own v t e so = by (e.txn == t) refl
-  where
-    simple : (c l d : Bool) → l ≡ false → d ≡ false → (not c && (not l && not d)) ≡ not c
-    simple true l d e f = refl
-    simple false l d e f = rw (e, f) refl
-
-    by : (b : Bool) → (e.txn == t) ≡ b → (b && counts v e) ≡ (b && not e.crossed)
-    by true own =
-        simple e.crossed (v.loses e.txn) (is_to_undo (v.doing e.txn) e.number)
-        (ap v.loses (eqb-true e.txn t own) ∙ so.0.loses_so)
-        (ap (λ d. is_to_undo d e.number) (ap v.doing (eqb-true e.txn t own) ∙ so.0.does_none))
-    by false own = refl
+counts_own v t e so = grind arith
 
 own_stand : (v : View) (m : Machine) (t : ℕ) → StandsFor v m → HasStatusOf v t Committed
     → standing (entries_of t m.h) ≡ standing (entries_of t (hist v.log))

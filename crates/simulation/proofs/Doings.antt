@@ -6,7 +6,7 @@ use Rattle.std.proofs.lemmas.Bool.{cases_lt}
 use Rattle.record_key.specs.declared.op.Op.{Op}
 use Rattle.history.specs.History.{Entry}
 use Rattle.history.specs.Spans.{Span}
-use Rattle.history.specs.ListMachine.{Machine, Status, Open, Waiting, Reading, Rolling, Committing, Committed, Losing, Gone}
+use Rattle.history.specs.ListMachine.{Machine, Status, Open, Waiting, Reading, Rolling}
 use Rattle.log_laws.proofs.LegalLogs.{op_number}
 use Rattle.simulation.specs.View.{View, Doing, Ready, Awaits, Looks, Rolls, HasStatusOf, IsRecorded, StandsFor}
 use Rattle.simulation.specs.Running.{put}
@@ -27,14 +27,7 @@ IsStatusFor (Some (Looks q)) s = s ≡ Reading q
 IsStatusFor (Some (Rolls p b)) s = s ≡ Rolling p
 
 by_doing : (v : View) (t : ℕ) (s : Status) → HasStatusOf v t s → IsStatusFor (v.doing t) s
-by_doing v t Open so = subst (λ d. IsStatusFor d Open) (sym so.does) refl
-by_doing v t (Waiting n o) so = subst (λ d. IsStatusFor d (Waiting n o)) (sym so.0.does) (o, refl)
-by_doing v t (Reading r) so = subst (λ d. IsStatusFor d (Reading r)) (sym so.does) refl
-by_doing v t (Rolling p) so = subst (λ d. IsStatusFor d (Rolling p)) (sym so.1.does) refl
-by_doing v t Committing so = subst (λ d. IsStatusFor d Committing) (sym so.0.does_none) tt
-by_doing v t Committed so = subst (λ d. IsStatusFor d Committed) (sym so.0.does_none) tt
-by_doing v t Losing so = subst (λ d. IsStatusFor d Losing) (sym so.quiet.does_none) tt
-by_doing v t Gone so = subst (λ d. IsStatusFor d Gone) (sym so.0.does_none) tt
+by_doing v t s so = grind arith
 
 pub status_for : (v : View) (m : Machine) (t : ℕ) (d : Doing) → StandsFor v m → v.doing t ≡ Some d
     → IsStatusFor (Some d) (m.txns t).status

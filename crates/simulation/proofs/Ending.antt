@@ -1,10 +1,10 @@
 -- Commits, and rollbacks that end.
-use Rattle.std.proofs.Common.{◌≡◌, ℕ, ◌+◌, ◌≤◌, Bool, true, false, ◌∷◌, length, Some, None, refl, ap, ◌∙◌, subst, arith, inl, inr, ne_eqb}
-use Rattle.std.specs.Prelude.{◌&&◌, ◌||◌, not}
+use Rattle.std.proofs.Common.{◌≡◌, ℕ, ◌+◌, ◌≤◌, true, false, ◌∷◌, length, Some, None, refl, ap, ◌∙◌, subst, arith, inl, inr}
+use Rattle.std.specs.Prelude.{◌&&◌, not}
 use Rattle.std.proofs.lemmas.Bool.{cases_eq, cases_Bool, le-ltb}
 use Rattle.record_key.specs.declared.op.Op.{Op}
 use Rattle.history.specs.declared.record.Record.TheVariants as is
-use Rattle.history.specs.Log.{is_crossed, has_ended, IsOpBy}
+use Rattle.history.specs.Log.{is_crossed, IsOpBy}
 use Rattle.history.specs.Legal.{IsLegal, Stands}
 use Rattle.history.specs.ListMachine.{Machine, Txn, Open, Committing, Gone, Commits, TellsRolledBack, TellsBack, with_txn, ended}
 use Rattle.log_laws.proofs.Records.{record_new}
@@ -26,27 +26,10 @@ module _ (v : View) (m : Machine) (t : ℕ) (legal : IsLegal (is.Commit t ∷ v.
 
   commit_agrees : (n u : ℕ) (q : Op) → IsOpBy v.log n u q
       → Agrees v.log (is.Commit t ∷ v.log) (counts v) (counts commit_view) n u q
-  commit_agrees n u q by = Both refl refl (λ a. elim (cases_eq u t) [
-    | inr apart ↦ counts_same v n u (is_crossed v.log n) (commit_view.doing u) (put_other v.doing t None u apart)
-    | inl e ↦
-        both_below v n u (is_crossed v.log n) (v.doing u) (commit_view.doing u)
-        (ap (λ d. is_to_undo d n) (ap v.doing e ∙ idle))
-        (ap (λ d. is_to_undo d n) (ap commit_view.doing e ∙ put_same v.doing t None))
-  ])
+  commit_agrees n u q by = grind arith
 
   commit_passes : (u : ℕ) → (u ≡ t → ⊥) → Passes v commit_view (is.Commit t) u
-  commit_passes u apart = record {
-    log = refl;
-    stable = refl;
-    loses = refl;
-    doing = put_other v.doing t None u apart;
-    saves = refl;
-    spans = refl;
-    no_op = λ q e. cc;
-    no_end = ap (λ (b : Bool). b || has_ended v.log u) (ne_eqb u t apart);
-    no_begin = λ at e. cc;
-    waits = λ n q by d none. none;
-  }
+  commit_passes u apart = grind arith
 
   commits_so : LeadsOn v m (Commits t) (after_commit v t)
   commits_so =
@@ -106,18 +89,7 @@ module _ (v : View) (m : Machine) (t b : ℕ) (legal : IsLegal (is.End t ∷ v.l
   ]
 
   end_passes : (u : ℕ) → (u ≡ t → ⊥) → Passes v end_view (is.End t) u
-  end_passes u apart = record {
-    log = refl;
-    stable = refl;
-    loses = refl;
-    doing = put_other v.doing t None u apart;
-    saves = refl;
-    spans = refl;
-    no_op = λ q e. cc;
-    no_end = ap (λ (b : Bool). b || has_ended v.log u) (ne_eqb u t apart);
-    no_begin = λ at e. cc;
-    waits = λ n q by d none. none;
-  }
+  end_passes u apart = grind arith
 
   ends_so : LeadsOn v m (TellsRolledBack t) (after_rollback v t)
   ends_so =

@@ -6,7 +6,6 @@ use Rattle.std.specs.List.{AllByRecursion}
 use Rattle.record_key.specs.declared.op.Op.{Op}
 use Rattle.record_key.specs.declared.op.Answer.{Answer}
 use Rattle.history.specs.declared.record.Record.{Record}
-use Rattle.history.specs.declared.record.Record.TheVariants as is
 use Rattle.history.specs.History.{Entry, lost}
 use Rattle.history.specs.Log.{answer_of, is_crossed, op_of, IsOpBy, hist_in, entry_with}
 use Rattle.history.specs.ListMachine.{fallen}
@@ -31,14 +30,7 @@ entry_of log n (Some by) h = entry_with log n by.0 by.1 (answer_of log n) h
 
 pub hist_step : (log : List Record) (r : Record) (rest : List Record)
     → hist_in log (r ∷ rest) ≡ entry_of log (length rest + 1) (op_of r) (hist_in log rest)
-hist_step log is.Session rest = refl
-hist_step log is.Begin rest = refl
-hist_step log (is.Op t p o) rest = refl
-hist_step log (is.Answer n a) rest = refl
-hist_step log (is.Comp t u x i) rest = refl
-hist_step log (is.Commit t) rest = refl
-hist_step log (is.End t) rest = refl
-hist_step log (is.Checkpoint l) rest = refl
+hist_step log r rest = grind arith
 
 -- what holds of the operations of a log holds of those before
 pub older_ops : (P : ℕ → ℕ → Op → Type 0) (r : Record) (rest : List Record)
@@ -65,28 +57,18 @@ pass p e h out = ap (λ (b : Bool). cond b (e ∷ filter p h) (filter p h)) out
 pass_answered : (x : List Record) (p : Entry → Bool) (n t : ℕ) (o : Op) (a : Option Answer) (h : List Entry)
     → ((b : Answer) → p (as_entry x n t o b) ≡ false)
     → filter p (entry_with x n t o a h) ≡ filter p h
-pass_answered x p n t o None h out = refl
-pass_answered x p n t o (Some a) h out = pass p (as_entry x n t o a) h (out a)
+pass_answered h h2 h3 h4 h5 h6 h7 out = grind arith
 
 both_answered : (x y : List Record) (p q : Entry → Bool) (n t : ℕ) (o : Op) (a b : Option Answer) (g h : List Entry)
     → a ≡ b → is_crossed x n ≡ is_crossed y n
     → ((a : Answer) → p (as_entry x n t o a) ≡ q (as_entry y n t o a)) → filter p g ≡ filter q h
     → filter p (entry_with x n t o a g) ≡ filter q (entry_with y n t o b h)
-both_answered x y p q n t o None None g h e c same below = below
-both_answered x y p q n t o (Some a) (Some b) g h e c same below =
-    let one : a ≡ b = cc in
-    (λ j. cond (same a j) (record { number = n; txn = t; op = o; answer = a; crossed = c j } ∷ below j) (below j))
-    ∙ ap (λ z. filter q (as_entry y n t o z ∷ h)) one
-both_answered x y p q n t o None (Some b) g h e c same below = absurd (cc)
-both_answered x y p q n t o (Some a) None g h e c same below = absurd (cc)
+both_answered h h2 h3 h4 h5 h6 h7 h8 b g h9 e c same below = grind arith
 
 alike_answered : (x y : List Record) (p q : Entry → Bool) (n t : ℕ) (o : Op) (g h : List Entry) → Agrees x y p q n t o
     → filter p g ≡ filter q h
     → filter p (entry_with x n t o (answer_of x n) g) ≡ filter q (entry_with y n t o (answer_of y n) h)
-alike_answered x y p q n t o g h (Both e c same) below =
-    both_answered x y p q n t o (answer_of x n) (answer_of y n) g h e c same below
-alike_answered x y p q n t o g h (Neither first second) below =
-    pass_answered x p n t o (answer_of x n) g first ∙ below ∙ sym (pass_answered y q n t o (answer_of y n) h second)
+alike_answered h h2 h3 h4 h5 h6 h7 g h8 h9 below = grind arith
 
 alike_step : (x y : List Record) (p q : Entry → Bool) (n : ℕ) (by : Option (ℕ × Op)) (g h : List Entry)
     → ((t : ℕ) (o : Op) → by ≡ Some (t, o) → Agrees x y p q n t o)
@@ -109,9 +91,7 @@ alike x y p q (r ∷ rest) same =
 -- a filter that takes none above a number leaves out the entries of the records above it
 over_step : (x : List Record) (p : Entry → Bool) (k n : ℕ) (by : Option (ℕ × Op)) (h : List Entry) → k < n
     → ((e : Entry) → k < e.number → p e ≡ false) → filter p (entry_of x n by h) ≡ filter p h
-over_step x p k n None h above out = refl
-over_step x p k n (Some by) h above out =
-    pass_answered x p n by.0 by.1 (answer_of x n) h (λ b. out (as_entry x n by.0 by.1 b) above)
+over_step h h2 k h3 by h4 above out = grind arith
 
 pub drop_over : (x : List Record) (p : Entry → Bool) (k : ℕ) (newer older : List Record) → k ≤ length older
     → ((e : Entry) → k < e.number → p e ≡ false)
@@ -125,15 +105,11 @@ drop_over x p k (r ∷ newer) older within out =
 
 -- two filters are one
 twice : (e : Entry) (x : List Entry) (a b : Bool) → cond b (cond a (e ∷ x) x) x ≡ cond (a && b) (e ∷ x) x
-twice e x true true = refl
-twice e x true false = refl
-twice e x false true = refl
-twice e x false false = refl
+twice e h h2 b = grind arith
 
 through : (p : Entry → Bool) (e : Entry) (y : List Entry) (b : Bool)
     → filter p (cond b (e ∷ y) y) ≡ cond b (cond (p e) (e ∷ filter p y) (filter p y)) (filter p y)
-through p e y true = refl
-through p e y false = refl
+through h e h2 b = grind arith
 
 pub filter_twice : (p q : Entry → Bool) (h : List Entry) → filter p (filter q h) ≡ filter (λ e. p e && q e) h
 filter_twice p q [] = refl
@@ -148,18 +124,14 @@ marked f e = record e { crossed = e.crossed || f e.txn e.number }
 uncross_one : (n t : ℕ) (o : Op) (a : Answer) (b : Bool) (x y : List Entry) → x ≡ y
     → cond (not b) (record { number = n; txn = t; op = o; answer = a; crossed = b } ∷ x) x
     ≡ cond (not b) (record { number = n; txn = t; op = o; answer = a; crossed = false } ∷ y) y
-uncross_one n t o a true x y rest = rest
-uncross_one n t o a false x y rest =
-    ap (λ z. record { number = n; txn = t; op = o; answer = a; crossed = false } ∷ z) rest
+uncross_one h h2 h3 h4 b h5 h6 rest = grind arith
 
 uncross_step : (f : ℕ → ℕ → Bool) (n t : ℕ) (o : Op) (a : Answer) (c : Bool) (h : List Entry)
     → standing (map (marked f) h) ≡ filter (λ e. not (f e.txn e.number)) (standing h)
     → standing (map (marked f) (record { number = n; txn = t; op = o; answer = a; crossed = c } ∷ h))
     ≡ filter (λ e. not (f e.txn e.number))
     (standing (record { number = n; txn = t; op = o; answer = a; crossed = c } ∷ h))
-uncross_step f n t o a true h rest = rest
-uncross_step f n t o a false h rest =
-    uncross_one n t o a (f t n) (standing (map (marked f) h)) (filter (λ e. not (f e.txn e.number)) (standing h)) rest
+uncross_step f h h2 h3 h4 c h5 rest = grind arith
 
 pub uncross_marked : (f : ℕ → ℕ → Bool) (h : List Entry)
     → standing (map (marked f) h) ≡ filter (λ e. not (f e.txn e.number)) (standing h)
@@ -173,12 +145,7 @@ fall_step : (fell : ℕ → Bool) (bound n t : ℕ) (o : Op) (a : Answer) (c : B
     → standing (map (fallen fell bound) (record { number = n; txn = t; op = o; answer = a; crossed = c } ∷ h))
     ≡ filter (λ e. not (nat_lt bound e.number) && not (fell e.txn))
     (standing (record { number = n; txn = t; op = o; answer = a; crossed = c } ∷ h))
-fall_step fell bound n t o a true h true e rest = rw e rest
-fall_step fell bound n t o a true h false e rest = rw e rest
-fall_step fell bound n t o a false h true e rest = rw e rest
-fall_step fell bound n t o a false h false e rest =
-    rw e (uncross_one n t o a (fell t) (standing (map (fallen fell bound) h))
-    (filter (λ e. not (nat_lt bound e.number) && not (fell e.txn)) (standing h)) rest)
+fall_step fell bound h h2 h3 h4 c h5 over e rest = grind arith
 
 pub uncross_fallen : (fell : ℕ → Bool) (bound : ℕ) (h : List Entry)
     → standing (map (fallen fell bound) h) ≡ filter (λ e. not (nat_lt bound e.number) && not (fell e.txn)) (standing h)
@@ -190,8 +157,7 @@ uncross_fallen fell bound (e ∷ h) =
 -- a filter keeps what holds of all
 keep_one : (P : Entry → Type 0) (p : Entry → Bool) (e : Entry) (h : List Entry) (b : Bool) → P e
     → AllByRecursion P (filter p h) → AllByRecursion P (cond b (e ∷ filter p h) (filter p h))
-keep_one P p e h true here rest = (here, rest)
-keep_one P p e h false here rest = rest
+keep_one h h2 e h3 b here rest = grind arith
 
 pub all_filtered : (P : Entry → Type 0) (p : Entry → Bool) (h : List Entry) → AllByRecursion P h
     → AllByRecursion P (filter p h)
@@ -213,10 +179,7 @@ marked_falling f (e ∷ h) falls = (
 
 pub marked_over : (f : ℕ → ℕ → Bool) (n : ℕ) (h : List Entry) → IsOverLost n h → IsOverLost n (map (marked f) h)
 marked_over f n [] over = tt
-marked_over f n (e ∷ h) over = (
-  λ none. marked_all (λ x. x.number < n) (λ x. x.number < n) f h (λ x lt. lt) (over.0 none),
-  marked_over f n h over.1,
-)
+marked_over f n (e ∷ h) over = grind (arith, marked_over f n h over.1, marked_all)
 
 pub marked_entry : (f : ℕ → ℕ → Bool) (h : List Entry) (n t : ℕ) (o : Op) → HasEntry h n t o
     → HasEntry (map (marked f) h) n t o
@@ -227,8 +190,7 @@ marked_entry f (e ∷ h) n t o (inr has) = inr (marked_entry f h n t o has)
 -- a fall leaves the numbers up to its bound
 fallen_one : (Q : Entry → Type 0) (fell : ℕ → Bool) (bound : ℕ) (e : Entry) (over : Bool) → nat_lt bound e.number ≡ over
     → (bound < e.number → Q (lost e)) → (e.number ≤ bound → Q (marked (λ t n. fell t) e)) → Q (fallen fell bound e)
-fallen_one Q fell bound e true is over within = rw is (over (is_lt bound e.number is))
-fallen_one Q fell bound e false is over within = rw is (within (not_lt bound e.number is))
+fallen_one h fell bound e over h2 over2 within = grind arith
 
 pub fallen_all : (P Q : Entry → Type 0) (fell : ℕ → Bool) (bound : ℕ) (h : List Entry)
     → ((e : Entry) → P e → bound < e.number → Q (lost e))
@@ -244,9 +206,7 @@ falling_one : (fell : ℕ → Bool) (bound : ℕ) (e : Entry) (h : List Entry) (
     → (0 < e.number → AllByRecursion (λ f. f.number < e.number) h)
     → 0 < (fallen fell bound e).number
     → AllByRecursion (λ f. f.number < (fallen fell bound e).number) (map (fallen fell bound) h)
-falling_one fell bound e h true is falls some =
-    let none : 0 < 0 = subst (λ (b : Bool). 0 < (if b then lost e else marked (λ t n. fell t) e).number) is some in
-    absurd (omega (arith, none))
+falling_one fell bound e h true is falls some = grind arith
 falling_one fell bound e h false is falls some =
     let number : (fallen fell bound e).number ≡ e.number =
     ap (λ (b : Bool). (if b then lost e else marked (λ t n. fell t) e).number) is in
@@ -265,9 +225,7 @@ fallen_falling fell bound (e ∷ h) falls = (
 
 entry_one : (fell : ℕ → Bool) (bound : ℕ) (e : Entry) (h : List Entry) (n t : ℕ) (o : Op) → n ≤ bound
     → (e.number ≡ n) × (e.txn ≡ t) × (e.op ≡ o) → HasEntry (fallen fell bound e ∷ h) n t o
-entry_one fell bound e h n t o within is =
-    let number = is.0 in
-    inl (rw (le-ltb bound e.number (omega (arith, within, number))) is)
+entry_one fell bound e h h2 h3 h4 within h5 = grind arith
 
 pub fallen_entry : (fell : ℕ → Bool) (bound : ℕ) (h : List Entry) (n t : ℕ) (o : Op) → n ≤ bound → HasEntry h n t o
     → HasEntry (map (fallen fell bound) h) n t o

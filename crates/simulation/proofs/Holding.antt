@@ -1,5 +1,5 @@
 -- Which spans a loser holds, by its entries and its last operation.
-use Rattle.std.proofs.Common.{◌≡◌, ℕ, Bool, true, false, cond, List, [], ◌∷◌, ◌++◌, Option, Some, None, refl, sym, ap, ◌∙◌, subst, inl, inr, ◌⊎◌, eqb-true, eq-eqb}
+use Rattle.std.proofs.Common.{arith, ◌≡◌, ℕ, Bool, true, false, cond, List, [], ◌∷◌, ◌++◌, Option, Some, None, refl, sym, ap, ◌∙◌, subst, inl, inr, ◌⊎◌, eqb-true, eq-eqb}
 use Rattle.std.specs.Prelude.{◌==◌, ◌&&◌, map, if◌then◌else◌}
 use Rattle.std.specs.List.{AllByRecursion}
 use Rattle.std.proofs.lemmas.Bool.{and_parts}
@@ -40,14 +40,7 @@ pub entry_holds : (bound : ℕ) (h : List Entry) (n t : ℕ) (o : Op) → is_lef
     → IsAmong (changed_span o) (entry_spans bound t h)
 entry_holds bound [] n t o left has = absurd has
 entry_holds bound (e ∷ h) n t o left (inl is) = entry_here bound e h t o is.1 is.2 (ap (is_left bound) is.0 ∙ left)
-entry_holds bound (e ∷ h) n t o left (inr has) =
-    by (e.txn == t && is_left bound e.number) (entry_holds bound h n t o left has)
-  where
-    by : (b : Bool) → IsAmong (changed_span o) (entry_spans bound t h)
-        → IsAmong (changed_span o)
-        (map (λ (x : Entry). changed_span x.op) (cond b (e ∷ left_of bound t h) (left_of bound t h)))
-    by true rest = inr rest
-    by false rest = rest
+entry_holds bound (e ∷ h) n t o left (inr has) = grind (arith, entry_holds bound h n t o left has)
 
 -- an entry that keeps its number stands in the log
 abbrev pub IsIn : List Record → ℕ → Entry → Type 0

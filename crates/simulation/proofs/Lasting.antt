@@ -1,7 +1,7 @@
 -- What lasts over lines, one at a time and then all of a run.
-use Rattle.std.proofs.Common.{◌≡◌, ◌≢◌, ℕ, Bool, true, false, List, [], ◌∷◌, sym, ap, ◌∙◌, subst, arith, inl, inr, ◌⊎◌}
+use Rattle.std.proofs.Common.{◌≡◌, ◌≢◌, ℕ, Bool, true, false, List, [], ◌∷◌, sym, ap, ◌∙◌, subst, arith, ◌⊎◌}
 use Rattle.history.specs.History.{Entry, entries_of}
-use Rattle.history.specs.ListMachine.{Machine, Status, Open, Waiting, Reading, Rolling, Committing, Committed, Losing, Gone, Line, Begins, TellsCommitted, Crashes, TellsLost, HasStatus, Falls, AreAllLeft, Survives, Step}
+use Rattle.history.specs.ListMachine.{Machine, Status, Committed, Line, Begins, TellsCommitted, Crashes, TellsLost, HasStatus, Falls, AreAllLeft, Survives, Step}
 use Rattle.simulation.specs.Lasting.{HasCommitted, HasFallen, CommitsLast}
 use Rattle.simulation.proofs.Owning.{IsClosed, IsUntouched, untouched, own_fallen}
 
@@ -15,30 +15,16 @@ pub own_stays : (m n : Machine) (t : ℕ) (h : Step m Crashes n) → h.0 t ≡ f
 own_stays m n t h stays left = ap (entries_of t) h.3 ∙ own_fallen h.0 h.1 t m.h stays left
 
 pub falls_so : (m n : Machine) (bound t : ℕ) → Falls m bound t (n.txns t) → HasFallen n t
-falls_so m n bound t (inl k) = inl (ap (λ x. x.status) k.1)
-falls_so m n bound t (inr b) = inr (ap (λ x. x.status) b.1)
+falls_so m n bound t h = grind arith
 
 -- whether its entries stay, or it has fallen
 pub stays_or_falls : (m n : Machine) (bound t : ℕ) (s : Status) (fell : Bool) → Survives m bound t s (n.txns t) fell
     → ((fell ≡ false) × AreAllLeft bound t m.h) ⊎ HasFallen n t
-stays_or_falls m n bound t Open fell h = inr (falls_so m n bound t h.0)
-stays_or_falls m n bound t (Waiting k o) fell h = inr (falls_so m n bound t h.0)
-stays_or_falls m n bound t (Reading q) fell h = inr (falls_so m n bound t h.0)
-stays_or_falls m n bound t (Rolling p) fell h = inr (falls_so m n bound t h.0)
-stays_or_falls m n bound t Committing fell (inl h) = inl (h.2, h.1)
-stays_or_falls m n bound t Committing fell (inr h) = inr (falls_so m n bound t h.0)
-stays_or_falls m n bound t Committed fell h = inl (h.1, h.0.1)
-stays_or_falls m n bound t Losing fell h = inl (h.1, h.0.1)
-stays_or_falls m n bound t Gone fell h =
-    elim h.0 [ inl stays ↦ inl (h.1, stays.1) | inr falls ↦ inr (falls_so m n bound t falls.1) ]
+stays_or_falls m n bound t s fell h = grind arith
 
 -- a committed transaction
 kept : (m n : Machine) (t : ℕ) (own : List Entry) → HasCommitted m t own → IsUntouched m n t → HasCommitted n t own
-kept m n t own has same = record {
-  begun = ap (λ x. x.begun) same.txn ∙ has.begun;
-  status = ap (λ x. x.status) same.txn ∙ has.status;
-  own_is = same.own ∙ has.own_is;
-}
+kept m n t own has same = grind arith
 
 pub closed_as : (m : Machine) (t : ℕ) (s : Status) → HasStatus m t s → IsClosed s → IsClosed (m.txns t).status
 closed_as m t s is closed = subst IsClosed (sym is) closed
@@ -50,23 +36,15 @@ other_than m t u r s has at apart e = apart (sym has ∙ ap (λ (k : ℕ). (m.tx
 -- a line that doesn't give its number again leaves it, and its entries
 pub committed_kept : (m n : Machine) (line : Line) (t : ℕ) → Step m line n → line ≢ Begins t → HasStatus m t Committed
     → IsUntouched m n t
-committed_kept m n (Begins u) t h anew is =
-    untouched m n (Begins u) t h (closed_as m t Committed is tt) (λ e. anew (ap Begins (sym e)))
-committed_kept m n (TellsCommitted u) t h anew is =
-    untouched m n (TellsCommitted u) t h (closed_as m t Committed is tt)
-    (other_than m t u Committed Committing is h.0 (λ e. cc))
-committed_kept m n (TellsLost u) t h anew is =
-    untouched m n (TellsLost u) t h (closed_as m t Committed is tt) (other_than m t u Committed Losing is h.0 (λ e. cc))
-committed_kept m n Crashes t h anew is =
-    let stays = survives_as m n t Committed h is in
-    record { txn = stays.0.0; own = own_stays m n t h stays.1 stays.0.1 }
+committed_kept m n (Begins u) t h anew is = grind (arith, untouched, closed_as)
+committed_kept m n (TellsCommitted u) t h anew is = grind (arith, untouched, closed_as, other_than)
+committed_kept m n (TellsLost u) t h anew is = grind (arith, untouched, closed_as, other_than)
+committed_kept m n Crashes t h anew is = grind (arith, survives_as, own_stays)
 committed_kept m n line t h anew is = untouched m n line t h (closed_as m t Committed is tt) tt
 
 -- and none does
 not_anew : (m n : Machine) (line : Line) (t : ℕ) → Step m line n → (m.txns t).begun ≡ true → line ≢ Begins t
-not_anew m n line t h begun e =
-    let above = (subst (λ l. Step m l n) e h).0.1 t begun in
-    omega (arith, above)
+not_anew m n line t h begun e = grind arith
 
 pub committed_step : (m n : Machine) (line : Line) (t : ℕ) (own : List Entry) → Step m line n → HasCommitted m t own
     → HasCommitted n t own

@@ -1,5 +1,5 @@
 -- Reads.
-use Rattle.std.proofs.Common.{◌≡◌, ℕ, false, List, ◌∷◌, Option, Some, refl, sym, ap, ◌∙◌, subst, inl, inr}
+use Rattle.std.proofs.Common.{rules, arith, ◌≡◌, ℕ, false, List, ◌∷◌, Option, Some, refl, sym, ap, ◌∙◌, subst, inl, inr}
 use Rattle.std.proofs.lemmas.Bool.{cases_eq}
 use Rattle.record_key.specs.declared.op.Op.{Op}
 use Rattle.record_key.specs.Order.{HasKeys}
@@ -92,15 +92,7 @@ module _ (v : View) (m : Machine) (t : ℕ) (stands : StandsFor v m) where
       let so : HasStatusOf v t (Reading q) = subst (HasStatusOf v t) is_so x.status in
       moves v m t stands (Some Ready) v.saves v.spans (below (Looks q) looks (λ n. refl)) (λ n. refl) (λ u apart. refl)
       (λ u apart. refl) (record (m.txns t) { status = Open })
-      (record {
-        begun = x.begun;
-        status = record { open_txn = so.open_txn; does = put_same v.doing t (Some Ready); stays = so.stays };
-        saves = subst (λ z. HasSavesOf v m.h t z (m.txns t).saves) is_so x.saves;
-        spans = subst (λ z. HoldsAs v t z (m.txns t).spans) is_so x.spans;
-        unentered = tt;
-        logged = x.logged;
-        entered = λ n o by. elim (x.entered n o by) [ inl a ↦ inl a | inr a ↦ absurd (subst IsUntold is_so a.1) ];
-      })
+      (search (rules, arith))
 
 pub read_is_a_step : ReadIsAStep
 read_is_a_step v m t q stands idle range is_free = reads_so v m t stands q idle range is_free

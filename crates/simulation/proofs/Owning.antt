@@ -1,6 +1,6 @@
 -- What a line leaves of one transaction and of its entries.
-use Rattle.std.proofs.Common.{◌≡◌, ℕ, ◌≤◌, Bool, true, false, cond, List, [], ◌∷◌, refl, sym, ap, ◌∙◌, subst, inl, inr, eqb-true, ne_eqb}
-use Rattle.std.specs.Prelude.{◌==◌, ◌||◌, ◌&&◌, not, map, nat_lt, if◌then◌else◌}
+use Rattle.std.proofs.Common.{arith, ◌≡◌, ℕ, ◌≤◌, Bool, true, false, cond, List, [], ◌∷◌, refl, sym, ap, ◌∙◌, subst, inl, inr, eqb-true, ne_eqb}
+use Rattle.std.specs.Prelude.{◌==◌, ◌||◌, ◌&&◌, not, map, nat_lt}
 use Rattle.std.specs.List.{list_any}
 use Rattle.std.proofs.Math.Bool.{or-false}
 use Rattle.std.proofs.lemmas.Bool.{le-ltb}
@@ -17,15 +17,7 @@ unmarked f e spared = λ j. record e { crossed = (ap (λ (b : Bool). e.crossed |
 pub own_marked : (f : ℕ → ℕ → Bool) (t : ℕ) (h : List Entry) → ((n : ℕ) → f t n ≡ false)
     → entries_of t (map (marked f) h) ≡ entries_of t h
 own_marked f t [] spared = refl
-own_marked f t (e ∷ h) spared = by (e.txn == t) refl (own_marked f t h spared)
-  where
-    by : (b : Bool) → (e.txn == t) ≡ b → entries_of t (map (marked f) h) ≡ entries_of t h
-        → cond b (marked f e ∷ entries_of t (map (marked f) h)) (entries_of t (map (marked f) h))
-        ≡ cond b (e ∷ entries_of t h) (entries_of t h)
-    by true own rest =
-        let same = unmarked f e (ap (λ (u : ℕ). f u e.number) (eqb-true e.txn t own) ∙ spared e.number) in
-        λ j. same j ∷ rest j
-    by false own rest = rest
+own_marked f t (e ∷ h) spared = grind (arith, own_marked f t h spared, unmarked, eqb-true)
 
 pub entry_marked : (f : ℕ → ℕ → Bool) (e : Entry) (h : List Entry) → f e.txn e.number ≡ false → IsEntry e h
     → IsEntry e (map (marked f) h)
@@ -40,59 +32,33 @@ same_fallen fell bound e le stays = rw (le-ltb bound e.number le) (unmarked (λ 
 
 txn_fallen : (fell : ℕ → Bool) (bound : ℕ) (e : Entry) (b : Bool) → nat_lt bound e.number ≡ b
     → (fallen fell bound e).txn ≡ e.txn
-txn_fallen fell bound e true is = rw is refl
-txn_fallen fell bound e false is = rw is refl
+txn_fallen fell bound e b is = grind arith
 
 own_step : (t : ℕ) (e g : Entry) (h k : List Entry) (b : Bool) → (e.txn == t) ≡ b → g.txn ≡ e.txn → (e.txn ≡ t → g ≡ e)
     → entries_of t k ≡ entries_of t h → entries_of t (g ∷ k) ≡ entries_of t (e ∷ h)
-own_step t e g h k true is txn same rest =
-    let one : g ≡ e = same (eqb-true e.txn t is) in
-    ap (λ x. entries_of t (x ∷ k)) one ∙ ap (λ y. cond (e.txn == t) (e ∷ y) y) rest
-own_step t e g h k false is txn same rest =
-    ap (λ (u : ℕ). cond (u == t) (g ∷ entries_of t k) (entries_of t k)) txn
-    ∙ ap (λ (c : Bool). cond c (g ∷ entries_of t k) (entries_of t k)) is ∙ rest
-    ∙ sym (ap (λ (c : Bool). cond c (e ∷ entries_of t h) (entries_of t h)) is)
+own_step t e g h k b is txn same rest = grind arith
 
 pub own_fallen : (fell : ℕ → Bool) (bound t : ℕ) (h : List Entry) → fell t ≡ false → AreAllLeft bound t h
     → entries_of t (map (fallen fell bound) h) ≡ entries_of t h
 own_fallen fell bound t [] stays left = refl
 own_fallen fell bound t (e ∷ h) stays left =
-    own_step t e (fallen fell bound e) h (map (fallen fell bound) h) (e.txn == t) refl
-    (txn_fallen fell bound e (nat_lt bound e.number) refl)
-    (λ own. same_fallen fell bound e (left.0 own) (ap fell own ∙ stays))
-    (own_fallen fell bound t h stays left.1)
+    grind (arith, own_fallen fell bound t h stays left.1, own_step, txn_fallen, same_fallen)
 
 pub entry_fallen : (fell : ℕ → Bool) (bound : ℕ) (e : Entry) (h : List Entry) → fell e.txn ≡ false → e.number ≤ bound
     → IsEntry e h → IsEntry e (map (fallen fell bound) h)
 entry_fallen fell bound e [] stays le has = absurd has
-entry_fallen fell bound e (g ∷ h) stays le (inl is) =
-    inl (ap (fallen fell bound) is ∙ same_fallen fell bound e le stays)
+entry_fallen fell bound e (g ∷ h) stays le (inl is) = grind (arith, same_fallen)
 entry_fallen fell bound e (g ∷ h) stays le (inr has) = inr (entry_fallen fell bound e h stays le has)
 
 -- and so does an entry of another
 pub own_placed : (e : Entry) (t : ℕ) (h : List Entry) → (t ≡ e.txn → ⊥) → entries_of t (placed e h) ≡ entries_of t h
 own_placed e t [] apart = ap (λ (b : Bool). cond b (e ∷ []) []) (ne_eqb e.txn t (λ s. apart (sym s)))
-own_placed e t (f ∷ h) apart = pick (nat_lt f.number e.number) (own_placed e t h apart)
-  where
-    pick : (b : Bool) → entries_of t (placed e h) ≡ entries_of t h
-        → entries_of t (if b then e ∷ f ∷ h else f ∷ placed e h) ≡ entries_of t (f ∷ h)
-    pick true rest =
-        let off = ne_eqb e.txn t (λ s. apart (sym s)) in
-        ap (λ (b : Bool). cond b (e ∷ entries_of t (f ∷ h)) (entries_of t (f ∷ h))) off
-    pick false rest = ap (λ x. cond (f.txn == t) (f ∷ x) x) rest
+own_placed e t (f ∷ h) apart = grind (arith, own_placed e t h apart, ne_eqb)
 
 pub entry_placed : (e g : Entry) (h : List Entry) → IsEntry e h → IsEntry e (placed g h)
 entry_placed e g [] has = absurd has
-entry_placed e g (f ∷ h) (inl is) = pick (nat_lt f.number g.number)
-  where
-    pick : (b : Bool) → IsEntry e (if b then g ∷ f ∷ h else f ∷ placed g h)
-    pick true = inr (inl is)
-    pick false = inl is
-entry_placed e g (f ∷ h) (inr has) = pick (nat_lt f.number g.number) (entry_placed e g h has)
-  where
-    pick : (b : Bool) → IsEntry e (placed g h) → IsEntry e (if b then g ∷ f ∷ h else f ∷ placed g h)
-    pick true rest = inr (inr has)
-    pick false rest = inr rest
+entry_placed e g (f ∷ h) (inl is) = grind arith
+entry_placed e g (f ∷ h) (inr has) = grind (arith, entry_placed e g h has)
 
 -- no crossing of another's names it
 pub spared_by : (p : ℕ → Bool) (t u : ℕ) → (t ≡ u → ⊥) → (n : ℕ) → ((t == u) && p n) ≡ false
@@ -107,11 +73,7 @@ pub record IsUntouched (m n : Machine) (t : ℕ) : Type 0 where
 changed : (m n : Machine) (t u : ℕ) (x : Txn) (g : List Entry) → (t ≡ u → ⊥) → entries_of t g ≡ entries_of t m.h
     → n ≡ record (with_txn m u x) { h = g }
     → IsUntouched m n t
-changed m n t u x g apart own is =
-    subst (λ y. IsUntouched m y t) (sym is) (record {
-      txn = ap (λ (b : Bool). if b then x else m.txns t) (ne_eqb t u apart);
-      own = own;
-    })
+changed m n t u x g apart own is = grind arith
 
 -- it waits for no call and no answer
 abbrev pub IsClosed : Status → Type 0
@@ -137,28 +99,21 @@ pub untouched : (m n : Machine) (line : Line) (t : ℕ) → Step m line n → Is
     → IsUntouched m n t
 untouched m n (Begins u) t h closed apart = changed m n t u _ m.h apart refl h.1
 untouched m n (Acts u o k) t h closed spared = changed m n t u _ m.h (other m t u Open closed h.0 (λ x. x)) refl h.4
-untouched m n (TellsAnswer u a) t h closed spared =
-    let apart = other m t u (Waiting h.0 h.1) closed h.2 (λ x. x) in
-    changed m n t u _ _ apart (own_placed _ t m.h apart) h.4
+untouched m n (TellsAnswer u a) t h closed spared = grind (arith, other, changed, own_placed)
 untouched m n (Reads u q) t h closed spared = changed m n t u _ m.h (other m t u Open closed h.0 (λ x. x)) refl h.3
-untouched m n (TellsRow u value) t h closed spared =
-    changed m n t u _ m.h (other m t u (Reading _) closed h.1 (λ x. x)) refl h.3
-untouched m n (TellsRows u rows) t h closed spared =
-    changed m n t u _ m.h (other m t u (Reading _) closed h.2 (λ x. x)) refl h.4
+untouched m n (TellsRow u value) t h closed spared = grind (arith, changed, other)
+untouched m n (TellsRows u rows) t h closed spared = grind (arith, changed, other)
 untouched m n (Saves u s) t h closed spared = changed m n t u _ m.h (other m t u Open closed h.0 (λ x. x)) refl h.3
 untouched m n (GoesBack u s) t h closed spared =
     let apart = other m t u Open closed h.1 (λ x. x) in
     changed m n t u _ _ apart (own_marked _ t m.h (spared_by (λ k. not (list_any (λ j. j == k) h.0)) t u apart)) h.4
-untouched m n (TellsBack u s) t h closed spared =
-    changed m n t u _ m.h (other m t u (Rolling _) closed h.0 (λ x. x)) refl h.1
+untouched m n (TellsBack u s) t h closed spared = grind (arith, changed, other)
 untouched m n (RollsBack u) t h closed spared =
     let apart = other m t u Open closed h.0 (λ x. x) in
     changed m n t u _ _ apart (own_marked _ t m.h (spared_by (λ _. true) t u apart)) h.1
-untouched m n (TellsRolledBack u) t h closed spared =
-    changed m n t u _ m.h (other m t u (Rolling _) closed h.0 (λ x. x)) refl h.1
+untouched m n (TellsRolledBack u) t h closed spared = grind (arith, changed, other)
 untouched m n (Commits u) t h closed spared = changed m n t u _ m.h (other m t u Open closed h.0 (λ x. x)) refl h.1
 untouched m n (TellsCommitted u) t h closed apart = changed m n t u _ m.h apart refl h.1
 untouched m n Crashes t h closed none = absurd none
 untouched m n (TellsLost u) t h closed apart = changed m n t u _ m.h apart refl h.1
-untouched m n (IsRefused call refusal) t h closed spared =
-    record { txn = ap (λ y. y.txns t) h.1; own = ap (λ y. entries_of t y.h) h.1 }
+untouched m n (IsRefused call refusal) t h closed spared = grind arith

@@ -24,10 +24,7 @@ ge_nat_lt m n h = grind (arith, nat_tests)
 same_entry : (x y : List Record) (n t : ℕ) (o : Op) (a b : Option Answer) (g h : List Entry) → a ≡ b
     → is_crossed x n ≡ is_crossed y n → g ≡ h
     → entry_with x n t o a g ≡ entry_with y n t o b h
-same_entry x y n t o None None g h e c below = below
-same_entry x y n t o (Some a) (Some b) g h e c below = let same : a ≡ b = cc in rw (same, c, below) refl
-same_entry x y n t o None (Some b) g h e c below = absurd (cc)
-same_entry x y n t o (Some a) None g h e c below = absurd (cc)
+same_entry x y n t o a b g h e c below = grind arith
 
 -- the same answers and compensations give the same history
 abbrev Same : List Record → List Record → ℕ → ℕ → Op → Type 0
@@ -54,12 +51,7 @@ all_entry : (P : Entry → Type 0) (log : List Record) (n : ℕ) (by : Option (�
     → ((t : ℕ) (o : Op) (a : Answer) → by ≡ Some (t, o)
     → P (record { number = n; txn = t; op = o; answer = a; crossed = is_crossed log n }))
     → AllByRecursion P h → AllByRecursion P (entry_of log n by h)
-all_entry P log n None h each all = all
-all_entry P log n (Some by) h each all = with_answer (answer_of log n)
-  where
-    with_answer : (a : Option Answer) → AllByRecursion P (entry_with log n by.0 by.1 a h)
-    with_answer None = all
-    with_answer (Some a) = (each by.0 by.1 a refl, all)
+all_entry h log n by h2 each all = grind arith
 
 pub all_hist : (P : Entry → Type 0) (log rest : List Record)
     → ((n t : ℕ) (o : Op) → IsOpBy rest n t o → (a : Answer)
@@ -86,11 +78,7 @@ placed_front e (f ∷ h) all = ap (λ b. if b then e ∷ f ∷ h else f ∷ plac
 -- one below passes
 pub placed_past : (log : List Record) (m t : ℕ) (o : Op) (a : Option Answer) (e : Entry) (h : List Entry) → e.number < m
     → entry_with log m t o a (placed e h) ≡ placed e (entry_with log m t o a h)
-placed_past log m t o None e h lt = refl
-placed_past log m t o (Some a) e h lt =
-    ap (λ b. if b then e ∷ record { number = m; txn = t; op = o; answer = a; crossed = is_crossed log m } ∷ h else
-    record { number = m; txn = t; op = o; answer = a; crossed = is_crossed log m } ∷ placed e h)
-    (sym (ge_nat_lt m e.number (omega arith)))
+placed_past log m t o a e h lt = grind arith
 
 -- the answer of one operation more
 module _ (log : List Record) (n t : ℕ) (o : Op) (a : Answer) (none : answer_of log n ≡ None) where
@@ -107,16 +95,11 @@ module _ (log : List Record) (n t : ℕ) (o : Op) (a : Answer) (none : answer_of
   answer_now = ap (λ (b : Bool). cond b (Some a) (answer_of log n)) (eq-eqb n n refl)
 
   below_alike : (rest : List Record) → length rest < n → hist_in longer rest ≡ hist_in log rest
-  below_alike rest below =
-      hist_alike longer log rest
-      (λ m u q by. (same_answer m (λ e. omega (arith, e, below, (op_number rest m u q by).bounded)), refl))
+  below_alike rest below = grind (arith, hist_alike, same_answer, op_number)
 
   past_step : (m : ℕ) (by : Option (ℕ × Op)) (h : List Entry) → n < m
       → entry_of longer m by (placed entry h) ≡ placed entry (entry_of log m by h)
-  past_step m None h lt = refl
-  past_step m (Some by) h lt =
-      ap (λ x. entry_with longer m by.0 by.1 x (placed entry h)) (same_answer m (λ e. omega (arith, e, lt)))
-      ∙ placed_past log m by.0 by.1 (answer_of log m) entry h lt
+  past_step m by h lt = grind arith
 
   placed_in : (rest : List Record) → IsOpBy rest n t o → hist_in longer rest ≡ placed entry (hist_in log rest)
   placed_in [] by = absurd (cc)
@@ -253,13 +236,11 @@ placed_itself e (f ∷ h) = pick (nat_lt f.number e.number) (placed_itself e h)
 -- a log's history has numbers
 over_answered : (m : ℕ) (log : List Record) (n t : ℕ) (o : Op) (a : Option Answer) (h : List Entry) → 0 < n
     → IsOverLost m h → IsOverLost m (entry_with log n t o a h)
-over_answered m log n t o None h some over = over
-over_answered m log n t o (Some a) h some over = (λ none. absurd (omega (arith, some, none)), over)
+over_answered m log n t o a h some over = grind arith
 
 over_record : (m : ℕ) (log : List Record) (n : ℕ) (by : Option (ℕ × Op)) (h : List Entry) → 0 < n
     → IsOverLost m h → IsOverLost m (entry_of log n by h)
-over_record m log n None h some over = over
-over_record m log n (Some by) h some over = over_answered m log n by.0 by.1 (answer_of log n) h some over
+over_record m log n by h some over = grind arith
 
 pub hist_over : (m : ℕ) (log rest : List Record) → IsOverLost m (hist_in log rest)
 hist_over m log [] = tt
@@ -270,13 +251,11 @@ hist_over m log (r ∷ rest) =
 -- a log's history falls
 falling_answered : (log : List Record) (n t : ℕ) (o : Op) (a : Option Answer) (h : List Entry)
     → AllByRecursion (λ e. e.number < n) h → IsFalling h → IsFalling (entry_with log n t o a h)
-falling_answered log n t o None h below falls = falls
-falling_answered log n t o (Some a) h below falls = (λ _. below, falls)
+falling_answered log n t o a h below falls = grind arith
 
 falling_step : (log : List Record) (n : ℕ) (by : Option (ℕ × Op)) (h : List Entry)
     → AllByRecursion (λ e. e.number < n) h → IsFalling h → IsFalling (entry_of log n by h)
-falling_step log n None h below falls = falls
-falling_step log n (Some by) h below falls = falling_answered log n by.0 by.1 (answer_of log n) h below falls
+falling_step log n by h below falls = grind arith
 
 pub hist_falling : (log rest : List Record) → IsFalling (hist_in log rest)
 hist_falling log [] = tt

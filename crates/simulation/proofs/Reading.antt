@@ -2,13 +2,13 @@
 use Rattle.std.proofs.Common.{◌≡◌, ℕ, ◌+◌, ◌≤◌, ◌==◌, Bool, true, false, List, [], ◌∷◌, length, Option, Some, None, IsSome, is_some, refl, sym, ap, ◌∙◌, subst, arith, inl, inr, true≢false, ◌⊎◌, ◌↔◌}
 use Rattle.std.specs.Prelude.{map, filter, not, ◌&&◌, if◌then◌else◌}
 use Rattle.std.specs.List.{AllByRecursion}
-use Rattle.std.proofs.lemmas.Bool.{cases_Bool, cases_eq, cases_lt, or_cases, or_left, or_right, eq-eqb, eqb-true}
+use Rattle.std.proofs.lemmas.Bool.{cases_Bool, cases_eq, cases_lt, or_left, eq-eqb}
 use Rattle.record_key.specs.declared.op.Op.{Op}
 use Rattle.record_key.specs.declared.op.Answer.{Answer}
 use Rattle.history.specs.declared.record.Record.{Record}
 use Rattle.history.specs.declared.record.Record.TheVariants as is
 use Rattle.history.specs.History.{Entry}
-use Rattle.history.specs.Log.{record_at, before, answer_of, has_ended, op_of, op_in, IsOpen, IsOpBy, entry_with, hist, hist_in}
+use Rattle.history.specs.Log.{record_at, before, answer_of, has_ended, op_of, op_in, IsOpen, IsOpBy, hist, hist_in}
 use Rattle.history.specs.Legal.{IsLegal, FitsOp}
 use Rattle.history.specs.Spans.{Span, changed_span}
 use Rattle.log_laws.proofs.Records.{AnOp, op_step, op_request, op_same, newest_at, older_at, at_newest, at_older, had_at, kept_at, which, not_newest, record_before, since}
@@ -50,10 +50,7 @@ record CommitAt (log : List Record) (t : ℕ) : Type 0 where
 
 commit_cases : (t : ℕ) (r : Record) (log : List Record) → has_committed (r ∷ log) t ≡ true
     → (has_committed log t ≡ true) ⊎ (r ≡ is.Commit t)
-commit_cases t (is.Commit u) log h =
-    elim (or_cases (t == u) (has_committed log t) h)
-    [ inl e ↦ inr (ap is.Commit (sym (eqb-true t u e))) | inr e ↦ inl e ]
-commit_cases t _ log h = inl h
+commit_cases t r log h = grind arith
 
 commit_at : (log : List Record) (t : ℕ) → has_committed log t ≡ true → CommitAt log t
 commit_at [] t h = absurd (true≢false (sym h))
@@ -76,8 +73,7 @@ commit_at (r ∷ log) t h =
 -- where it has one it has committed
 committed_push : (t : ℕ) (r : Record) (log : List Record) → has_committed log t ≡ true
     → has_committed (r ∷ log) t ≡ true
-committed_push t (is.Commit u) log h = or_right (t == u) (has_committed log t) h
-committed_push t _ log h = h
+committed_push t r log h = grind arith
 
 commit_commits : (log : List Record) (t n : ℕ) → record_at log n ≡ Some (is.Commit t) → has_committed log t ≡ true
 commit_commits [] t n h = absurd (cc)
@@ -113,13 +109,11 @@ IsIn n o (x ∷ xs) = (x ≡ (n, o)) ⊎ IsIn n o xs
 
 in_if : (n t u m : ℕ) (o q : Op) (b : Bool) (xs : List (ℕ × Op)) → IsIn n o xs
     → IsIn n o (if b then (m, q) ∷ xs else xs)
-in_if n t u m o q true xs h = inr h
-in_if n t u m o q false xs h = h
+in_if n t u m o q b xs h = grind arith
 
 in_more : (n t m : ℕ) (o : Op) (by : Option (ℕ × Op)) (xs : List (ℕ × Op)) → IsIn n o xs
     → IsIn n o (also_by t m by xs)
-in_more n t m o None xs h = h
-in_more n t m o (Some by) xs h = in_if n t by.0 m o by.1 (by.0 == t) xs h
+in_more n t m o by xs h = grind arith
 
 in_newest : (n t m : ℕ) (o : Op) (by : Option (ℕ × Op)) (xs : List (ℕ × Op)) → n ≡ m → by ≡ Some (t, o)
     → IsIn n o (also_by t m by xs)
@@ -137,16 +131,7 @@ op_in_ops (r ∷ log) t n o by =
 -- and each of these is one
 from_newest : (n t m : ℕ) (o : Op) (by : Option (ℕ × Op)) (xs : List (ℕ × Op)) → IsIn n o (also_by t m by xs)
     → ((n ≡ m) × (by ≡ Some (t, o))) ⊎ IsIn n o xs
-from_newest n t m o None xs h = inr h
-from_newest n t m o (Some (u, q)) xs h = by (u == t) refl h
-  where
-    by : (b : Bool) → (u == t) ≡ b → IsIn n o (if b then (m, q) ∷ xs else xs)
-        → ((n ≡ m) × ◌≡◌ {A = Option (ℕ × Op)} (Some (u, q)) (Some (t, o))) ⊎ IsIn n o xs
-    by true e (inl is) =
-        let same : u ≡ t = eqb-true u t e in
-        inl (sym (ap (λ (x : ℕ × Op). x.0) is), (λ i. Some (same i, (is i).1)))
-    by true e (inr rest) = inr rest
-    by false e rest = inr rest
+from_newest n t m o by xs h = grind arith
 
 ops_are_ops : (log : List Record) (t n : ℕ) (o : Op) → IsIn n o (operations_of log t) → IsOpBy log n t o
 ops_are_ops [] t n o h = absurd h
@@ -218,12 +203,7 @@ unanswered_is_last log t n o legal by none =
 -- one that is answered has its entry
 entry_or_older : (log : List Record) (m n t : ℕ) (o : Op) (by : Option (ℕ × Op)) (h : List Entry) → HasEntry h n t o
     → HasEntry (entry_of log m by h) n t o
-entry_or_older log m n t o None h has = has
-entry_or_older log m n t o (Some by) h has = older (answer_of log m)
-  where
-    older : (a : Option Answer) → HasEntry (entry_with log m by.0 by.1 a h) n t o
-    older None = has
-    older (Some a) = inr has
+entry_or_older log m n t o by h has = grind arith
 
 answered_entry : (log rest : List Record) (n t : ℕ) (o : Op) (a : Answer) → IsOpBy rest n t o
     → answer_of log n ≡ Some a → HasEntry (hist_in log rest) n t o

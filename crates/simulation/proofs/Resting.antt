@@ -1,20 +1,20 @@
 -- The value at a key on which nobody acts stays, where only committed transactions left it.
-use Rattle.std.proofs.Common.{◌≡◌, ◌≢◌, ℕ, ◌≤◌, Bool, true, false, List, [], ◌∷◌, Option, None, refl, sym, ap, ◌∙◌, subst, inl, inr, true≢false}
+use Rattle.std.proofs.lemmas.Bool.Decides.{nat_tests}
+use Rattle.std.proofs.Common.{arith, ◌≡◌, ◌≢◌, ℕ, ◌≤◌, Bool, true, false, List, [], ◌∷◌, Option, None, refl, sym, ap, ◌∙◌, subst, inl, inr, true≢false}
 use Rattle.std.specs.Prelude.{◌==◌, ◌&&◌, ◌||◌, not, map, nat_lt, if◌then◌else◌}
 use Rattle.std.specs.List.{AllByRecursion, list_any}
 use Rattle.std.specs.FinMap.{get, get-empty}
-use Rattle.std.proofs.lemmas.Bool.{cases_Bool, le-ltb}
+use Rattle.std.proofs.lemmas.Bool.{cases_Bool}
 use Rattle.record_key.specs.declared.op.Op.{Op}
 use Rattle.record_key.specs.declared.op.Answer.{Answer}
 use Rattle.record_key.specs.Table.{Bytes, key_of, value_after}
 use Rattle.record_key.specs.Laws.{key_cmp}
 use Rattle.record_key.proofs.Tables.{is_same-true}
-use Rattle.history.specs.History.{Entry, plain, placed, entries_of}
+use Rattle.history.specs.History.{Entry, plain, placed}
 use Rattle.history.specs.Values.{is_on}
-use Rattle.history.specs.ListMachine.{Machine, Txn, Status, Open, Waiting, Reading, Rolling, Committing, Committed, Losing, Gone, Line, Begins, Acts, TellsAnswer, Reads, TellsRow, TellsRows, Saves, GoesBack, TellsBack, RollsBack, TellsRolledBack, Commits, TellsCommitted, Crashes, TellsLost, IsRefused, HasStatus, Falls, AreAllLeft, Survives, Step, Steps, with_txn, fallen}
+use Rattle.history.specs.ListMachine.{Machine, Txn, Status, Open, Waiting, Committed, Line, Begins, Acts, TellsAnswer, Reads, TellsRow, TellsRows, Saves, GoesBack, TellsBack, RollsBack, TellsRolledBack, Commits, TellsCommitted, Crashes, TellsLost, IsRefused, HasStatus, Falls, AreAllLeft, Survives, Step, Steps, with_txn, fallen}
 use Rattle.log_laws.proofs.Plain.{entry_leaves}
-use Rattle.log_laws.proofs.Statuses.{same_op}
-use Rattle.simulation.specs.Lasting.{HasCommitted, IsOwned, IsLastAt, ActsElsewhere, ValuesLast}
+use Rattle.simulation.specs.Lasting.{IsOwned, IsLastAt, ActsElsewhere, ValuesLast}
 use Rattle.simulation.proofs.Entries.{marked, marked_all, fallen_all}
 use Rattle.simulation.proofs.Placing.{all_placed}
 use Rattle.simulation.proofs.Owning.{spared_by}
@@ -42,13 +42,7 @@ off_key k o apart =
     ]
 
 passed : (k : Bytes) (e : Entry) (h : List Entry) → key_of e.op ≢ k → value_in k (e ∷ h) ≡ value_in k h
-passed k e h apart = by e.crossed (is_on k e.op) (off_key k e.op apart)
-  where
-    by : (c on : Bool) → on ≡ false
-        → (if not c && on then value_after e.op (value_in k h) else value_in k h) ≡ value_in k h
-    by true on off = refl
-    by false true off = absurd (true≢false off)
-    by false false off = refl
+passed h h2 h3 apart = grind (arith, off_key, true≢false)
 
 placed_value : (k : Bytes) (e : Entry) (h : List Entry) → key_of e.op ≢ k → value_in k (placed e h) ≡ value_in k h
 placed_value k e [] apart = passed k e [] apart
@@ -87,18 +81,7 @@ fallen_step : (k : Bytes) (fell : ℕ → Bool) (bound n t : ℕ) (o : Op) (a : 
     && is_on k (fallen fell bound (record { number = n; txn = t; op = o; answer = a; crossed = c })).op)
     (fallen fell bound (record { number = n; txn = t; op = o; answer = a; crossed = c })).op v
     ≡ leaving (not c && is_on k o) o w
-fallen_step k fell bound n t o a true v w true on is at spared rest = rw is rest
-fallen_step k fell bound n t o a true v w false on is at spared rest = rw is rest
-fallen_step k fell bound n t o a false v w true true is at spared rest =
-    absurd (true≢false (sym is ∙ le-ltb bound n (spared refl refl).1))
-fallen_step k fell bound n t o a false v w true false is at spared rest = rw (is, at) rest
-fallen_step k fell bound n t o a false v w false true is at spared rest =
-    rw (is, at, (spared refl refl).0) (ap (value_after o) rest)
-fallen_step k fell bound n t o a false v w false false is at spared rest = rw (is, at) (off (fell t))
-  where
-    off : (b : Bool) → leaving (not b && false) o v ≡ w
-    off true = rest
-    off false = rest
+fallen_step h h2 h3 h4 h5 o a c v w over on is at spared rest = grind arith
 
 fallen_value : (k : Bytes) (fell : ℕ → Bool) (bound : ℕ) (h : List Entry) → AllByRecursion (IsSpared k fell bound) h
     → value_in k (map (fallen fell bound) h) ≡ value_in k h
@@ -146,11 +129,7 @@ change m n (IsRefused call refusal) h = Stays (ap (λ y. y.h) h.1)
 
 -- of whoever committed are the entries that stand there, and so they stay
 owns_on : (m n : Machine) (line : Line) (k : Bytes) (e : Entry) → Step m line n → IsOwned m k e → IsOwned n k e
-owns_on m n line k e h owns stands on =
-    let own = owns stands on in
-    let had : HasCommitted m e.txn (entries_of e.txn m.h) = record { begun = own.0; status = own.1; own_is = refl } in
-    let has = committed_step m n line e.txn (entries_of e.txn m.h) h had in
-    (has.begun, has.status)
+owns_on h h2 line h3 h4 h5 owns stands on = grind (arith, nat_tests, committed_step)
 
 each_on : (m n : Machine) (line : Line) (k : Bytes) (h : List Entry) → Step m line n → AllByRecursion (IsOwned m k) h
     → AllByRecursion (IsOwned n k) h
@@ -158,28 +137,12 @@ each_on m n line k [] step all = tt
 each_on m n line k (e ∷ h) step all = (owns_on m n line k e step all.0, each_on m n line k h step all.1)
 
 unmarked_before : (c b : Bool) → (c || b) ≡ false → c ≡ false
-unmarked_before true b e = e
-unmarked_before false b e = refl
+unmarked_before c b h = grind arith
 
 owners_step : (m n : Machine) (line : Line) (k : Bytes) → Step m line n → IsLastAt m k → Change m n
     → AllByRecursion (IsOwned n k) n.h
-owners_step m n line k h rest (Stays same) =
-    subst (AllByRecursion (IsOwned n k)) (sym same) (each_on m n line k m.h h rest.owners)
-owners_step m n line k h rest (Places e waits same) =
-    subst (AllByRecursion (IsOwned n k)) (sym same)
-    (all_placed (IsOwned n k) e m.h (λ stands on. absurd (rest.unasked e.txn e.number e.op waits on))
-    (each_on m n line k m.h h rest.owners))
-owners_step m n line k h rest (Marks f spared same) =
-    subst (AllByRecursion (IsOwned n k)) (sym same)
-    (marked_all (IsOwned n k) (IsOwned n k) f m.h
-    (λ e owns stands on. owns (unmarked_before e.crossed (f e.txn e.number) stands) on)
-    (each_on m n line k m.h h rest.owners))
-owners_step m n line k h rest (Loses fell bound spared same) =
-    subst (AllByRecursion (IsOwned n k)) (sym same)
-    (fallen_all (IsOwned n k) (IsOwned n k) fell bound m.h
-    (λ e owns over stands on. absurd (true≢false stands))
-    (λ e owns within stands on. owns (unmarked_before e.crossed (fell e.txn) stands) on)
-    (each_on m n line k m.h h rest.owners))
+owners_step h h2 line h3 h4 rest h5 =
+    grind (arith, each_on, all_placed, marked_all, unmarked_before, fallen_all, true≢false)
 
 spared_each : (m : Machine) (k : Bytes) (fell : ℕ → Bool) (bound : ℕ) (h : List Entry)
     → ((t : ℕ) → HasStatus m t Committed → (fell t ≡ false) × AreAllLeft bound t h) → AllByRecursion (IsOwned m k) h
@@ -194,17 +157,10 @@ spares_each : (m : Machine) (k : Bytes) (f : ℕ → ℕ → Bool) (h : List Ent
     → ((t j : ℕ) → HasStatus m t Committed → f t j ≡ false) → AllByRecursion (IsOwned m k) h
     → AllByRecursion (λ e. e.crossed ≡ false → key_of e.op ≡ k → f e.txn e.number ≡ false) h
 spares_each m k f [] spared all = tt
-spares_each m k f (e ∷ h) spared all =
-    (λ stands on. spared e.txn e.number (all.0 stands on).1, spares_each m k f h spared all.1)
+spares_each m k f (e ∷ h) spared all = grind (arith, spares_each m k f h spared all.1)
 
 value_step : (m n : Machine) (k : Bytes) → IsLastAt m k → Change m n → value_in k n.h ≡ value_in k m.h
-value_step m n k rest (Stays same) = ap (value_in k) same
-value_step m n k rest (Places e waits same) =
-    ap (value_in k) same ∙ placed_value k e m.h (rest.unasked e.txn e.number e.op waits)
-value_step m n k rest (Marks f spared same) =
-    ap (value_in k) same ∙ marked_value k f m.h (spares_each m k f m.h spared rest.owners)
-value_step m n k rest (Loses fell bound spared same) =
-    ap (value_in k) same ∙ fallen_value k fell bound m.h (spared_each m k fell bound m.h spared rest.owners)
+value_step h h2 h3 rest h4 = grind (arith, placed_value, marked_value, spares_each, fallen_value, spared_each)
 
 -- whoever waits waits for an operation elsewhere
 abbrev WaitsElsewhere : Bytes → Txn → Type 0
@@ -220,11 +176,7 @@ waits_not k x idle j o e = absurd (subst WaitsNot e idle)
 waits_with : (m n : Machine) (k : Bytes) (u : ℕ) (x : Txn) (g : List Entry) → IsLastAt m k → WaitsElsewhere k x
     → n ≡ record (with_txn m u x) { h = g }
     → (t : ℕ) → WaitsElsewhere k (n.txns t)
-waits_with m n k u x g rest new is = subst (λ y. (t : ℕ) → WaitsElsewhere k (y.txns t)) (sym is) (λ t. pick t (t == u))
-  where
-    pick : (t : ℕ) (b : Bool) → WaitsElsewhere k (if b then x else m.txns t)
-    pick t true = new
-    pick t false = rest.unasked t
+waits_with h h2 h3 u x g rest new is h4 = grind arith
 
 still_with : (m n : Machine) (k : Bytes) (u : ℕ) (x : Txn) (g : List Entry) → IsLastAt m k → WaitsNot x.status
     → n ≡ record (with_txn m u x) { h = g }
@@ -232,8 +184,7 @@ still_with : (m n : Machine) (k : Bytes) (u : ℕ) (x : Txn) (g : List Entry) �
 still_with m n k u x g rest idle is = waits_with m n k u x g rest (waits_not k x idle) is
 
 falls_waits : (m : Machine) (bound t : ℕ) (new : Txn) → Falls m bound t new → WaitsNot new.status
-falls_waits m bound t new (inl k) = subst WaitsNot (sym (ap (λ x. x.status) k.1)) tt
-falls_waits m bound t new (inr b) = subst WaitsNot (sym (ap (λ x. x.status) b.1)) tt
+falls_waits h h2 h3 new h4 = grind arith
 
 stays_waits : (m : Machine) (t : ℕ) (s : Status) (new : Txn) → HasStatus m t s → new ≡ m.txns t → WaitsNot s
     → WaitsNot new.status
@@ -242,41 +193,11 @@ stays_waits m t s new is same idle = subst WaitsNot (sym (ap (λ x. x.status) sa
 crash_waits : (m : Machine) (bound t : ℕ) (s : Status) (new : Txn) (fell : Bool) → HasStatus m t s
     → Survives m bound t s new fell
     → WaitsNot new.status
-crash_waits m bound t Open new fell is h = falls_waits m bound t new h.0
-crash_waits m bound t (Waiting j o) new fell is h = falls_waits m bound t new h.0
-crash_waits m bound t (Reading q) new fell is h = falls_waits m bound t new h.0
-crash_waits m bound t (Rolling p) new fell is h = falls_waits m bound t new h.0
-crash_waits m bound t Committing new fell is (inl h) = subst WaitsNot (sym (ap (λ x. x.status) h.0)) tt
-crash_waits m bound t Committing new fell is (inr h) = falls_waits m bound t new h.0
-crash_waits m bound t Committed new fell is h = stays_waits m t Committed new is h.0.0 tt
-crash_waits m bound t Losing new fell is h = stays_waits m t Losing new is h.0.0 tt
-crash_waits m bound t Gone new fell is h =
-    elim (h.0) [
-      | inl stays ↦ stays_waits m t Gone new is stays.0 tt
-      | inr falls ↦ falls_waits m bound t new falls.1
-    ]
+crash_waits h h2 h3 s new h4 is h5 = grind arith
 
 waits_step : (m n : Machine) (line : Line) (k : Bytes) → Step m line n → ActsElsewhere k line → IsLastAt m k
     → (t : ℕ) → WaitsElsewhere k (n.txns t)
-waits_step m n (Begins u) k h off rest = still_with m n k u _ _ rest tt h.1
-waits_step m n (Acts u o i) k h off rest =
-    waits_with m n k u _ _ rest (λ j p e. subst (λ q. key_of q ≢ k) (same_op i j o p e) off) h.4
-waits_step m n (TellsAnswer u a) k h off rest = still_with m n k u _ _ rest tt h.4
-waits_step m n (Reads u q) k h off rest = still_with m n k u _ _ rest tt h.3
-waits_step m n (TellsRow u value) k h off rest = still_with m n k u _ _ rest tt h.3
-waits_step m n (TellsRows u rows) k h off rest = still_with m n k u _ _ rest tt h.4
-waits_step m n (Saves u s) k h off rest = waits_with m n k u _ _ rest (rest.unasked u) h.3
-waits_step m n (GoesBack u s) k h off rest = still_with m n k u _ _ rest tt h.4
-waits_step m n (TellsBack u s) k h off rest = still_with m n k u _ _ rest tt h.1
-waits_step m n (RollsBack u) k h off rest = still_with m n k u _ _ rest tt h.1
-waits_step m n (TellsRolledBack u) k h off rest = still_with m n k u _ _ rest tt h.1
-waits_step m n (Commits u) k h off rest = still_with m n k u _ _ rest tt h.1
-waits_step m n (TellsCommitted u) k h off rest = still_with m n k u _ _ rest tt h.1
-waits_step m n Crashes k h off rest =
-    λ t. waits_not k (n.txns t) (crash_waits m h.1 t (m.txns t).status (n.txns t) (h.0 t) refl (h.2 t))
-waits_step m n (TellsLost u) k h off rest = still_with m n k u _ _ rest tt h.1
-waits_step m n (IsRefused call refusal) k h off rest =
-    λ t. subst (λ y. WaitsElsewhere k (y.txns t)) (sym h.1) (rest.unasked t)
+waits_step h h2 line h3 h4 off rest h5 = grind arith
 
 values_in : (m n : Machine) (lines : List Line) (k : Bytes) → Steps m lines n → AllByRecursion (ActsElsewhere k) lines
     → IsLastAt m k
@@ -290,5 +211,4 @@ values_in m n (line ∷ lines) k steps off rest =
     values_in steps.0 n lines k steps.2 off.1 next ∙ value_step m steps.0 k rest (change m steps.0 line steps.1)
 
 pub values_last : ValuesLast
-values_last m n lines k steps off rest =
-    plain_value k n.h ∙ values_in m n lines k steps off rest ∙ sym (plain_value k m.h)
+values_last h h2 lines h3 steps off rest = grind (arith, plain_value, values_in)

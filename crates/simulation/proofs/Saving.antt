@@ -1,41 +1,30 @@
 -- Savepoints, and rollbacks to them.
-use Rattle.std.proofs.Common.{◌≡◌, ℕ, zero, suc, ◌+◌, ◌-◌, ◌<◌, ◌≤◌, Bool, true, false, cond, List, [], ◌∷◌, ◌++◌, length, Some, refl, sym, ap, ◌∙◌, subst, arith, inl, inr, true≢false, eq-eqb, ne_eqb, take}
-use Rattle.std.specs.Prelude.{◌==◌, ◌&&◌, ◌||◌, ◌↔◌, not, map, filter, nat_lt, slice_get}
+use Rattle.std.proofs.Common.{◌≡◌, ℕ, zero, suc, ◌+◌, ◌-◌, ◌<◌, ◌≤◌, Bool, true, cond, List, [], ◌∷◌, ◌++◌, length, Some, refl, sym, ap, ◌∙◌, subst, arith, inl, inr, take}
+use Rattle.std.specs.Prelude.{◌==◌, ◌&&◌, ◌↔◌, not, map, filter, nat_lt, slice_get}
 use Rattle.std.proofs.lemmas.Bool.{or_left}
 use Rattle.std.specs.List.{AllByRecursion, list_any}
-use Rattle.std.proofs.lemmas.Bool.{cases_eq, cases_lt, lt-ltb, le-ltb}
 use Rattle.record_key.specs.declared.op.Op.{Op}
 use Rattle.history.specs.History.{Entry, numbers_of}
-use Rattle.history.specs.Log.{is_crossed, IsOpBy, hist}
+use Rattle.history.specs.Log.{IsOpBy, hist}
 use Rattle.history.specs.ListMachine.{Machine, Txn, Rolling, GoesBack, with_txn}
-use Rattle.simulation.specs.View.{View, Ready, Rolls, counts, is_to_undo, HasStatusOf, HasSaves, HasSavesOf, HoldsAs, HasEntry, Remembers, IsUntold, IsRecorded, StandsFor}
+use Rattle.simulation.specs.View.{View, Ready, Rolls, counts, HasStatusOf, HasSaves, HasSavesOf, HoldsAs, HasEntry, Remembers, IsUntold, IsRecorded, StandsFor}
 use Rattle.simulation.specs.Running.{LeadsOn, after_save, after_go_back, SaveIsAStep, GoBackIsAStep}
-use Rattle.simulation.proofs.Entries.{as_entry, Agrees, Both, alike, filter_twice, marked, uncross_marked, marked_all, marked_falling, marked_entry}
+use Rattle.simulation.proofs.Entries.{Agrees, alike, filter_twice, marked, uncross_marked, marked_all, marked_falling, marked_entry}
 use Rattle.simulation.proofs.Carrying.{same_entries, txn_kept, one_changed}
 use Rattle.simulation.proofs.Doings.{put_same, put_other, open_as, carries_view, numbers_below}
-use Rattle.simulation.proofs.Calling.{counts_same}
 use Rattle.simulation.proofs.Undoing.{marked_entries}
 
 -- what a new savepoint remembers
 any_more : (n : ℕ) (e : Entry) (t : ℕ) (h : List Entry) (b : Bool) → list_any (λ j. j == n) (numbers_of t h) ≡ true
     → list_any (λ j. j == n)
     (map (λ (x : Entry). x.number) (cond b (e ∷ filter (λ x. x.txn == t) h) (filter (λ x. x.txn == t) h))) ≡ true
-any_more n e t h true any = or_second (e.number == n) any
-  where
-    or_second : (a : Bool) {b : Bool} → b ≡ true → (a || b) ≡ true
-    or_second true h = refl
-    or_second false h = h
-any_more n e t h false any = any
+any_more n e t h b any = grind arith
 
 any_here : (n : ℕ) (e : Entry) (t : ℕ) (h : List Entry) → e.number ≡ n → e.txn ≡ t
     → list_any (λ j. j == n)
     (map (λ (x : Entry). x.number)
     (cond (e.txn == t) (e ∷ filter (λ x. x.txn == t) h) (filter (λ x. x.txn == t) h))) ≡ true
-any_here n e t h at own =
-    ap (λ (b : Bool). list_any (λ j. j == n)
-    (map (λ (x : Entry). x.number) (cond b (e ∷ filter (λ x. x.txn == t) h) (filter (λ x. x.txn == t) h))))
-    (eq-eqb e.txn t own)
-    ∙ ap (λ (b : Bool). b || list_any (λ j. j == n) (numbers_of t h)) (eq-eqb e.number n at)
+any_here n e t h at own = grind arith
 
 listed : (h : List Entry) (n t : ℕ) (o : Op) → HasEntry h n t o → list_any (λ j. j == n) (numbers_of t h) ≡ true
 listed [] n t o has = absurd has
@@ -54,25 +43,13 @@ itself (e ∷ h) g each = (
 numbers_within : (t end : ℕ) (h : List Entry) → AllByRecursion (λ e. e.number < end + 1) h
     → AllByRecursion (λ j. j ≤ end) (numbers_of t h)
 numbers_within t end [] all = tt
-numbers_within t end (e ∷ h) all = by (e.txn == t) (numbers_within t end h all.1)
-  where
-    by : (b : Bool) → AllByRecursion (λ j. j ≤ end) (numbers_of t h)
-        → AllByRecursion (λ j. j ≤ end)
-        (map (λ (x : Entry). x.number) (cond b (e ∷ filter (λ x. x.txn == t) h) (filter (λ x. x.txn == t) h)))
-    by true rest = (omega (arith, all.0), rest)
-    by false rest = rest
+numbers_within t end (e ∷ h) all = grind (arith, numbers_within t end h all.1)
 
 remembers_all : (t end : ℕ) (g h : List Entry) → AllByRecursion (λ e. HasEntry g e.number e.txn e.op) h
     → AllByRecursion (λ e. e.number < end + 1) h
     → AllByRecursion (λ e. e.txn ≡ t → (list_any (λ j. j == e.number) (numbers_of t g) ≡ true) ↔ (e.number ≤ end)) h
 remembers_all t end g [] has all = tt
-remembers_all t end g (e ∷ h) has all = (
-  λ own. (
-    λ any. omega (arith, all.0),
-    λ le. listed g e.number t e.op (subst (λ u. HasEntry g e.number u e.op) own has.0),
-  ),
-  remembers_all t end g h has.1 all.1,
-)
+remembers_all t end g (e ∷ h) has all = grind (arith, remembers_all t end g h has.1 all.1, listed)
 
 one_save_more : (h : List Entry) (t limit : ℕ) (saves : List (List ℕ)) (ends : List ℕ) (kept : List ℕ) (end : ℕ)
     → HasSaves h t limit saves ends → Remembers h t kept end → end < limit
@@ -144,12 +121,8 @@ record SaveAt (h : List Entry) (t : ℕ) (saves : List (List ℕ)) (i end : ℕ)
 save_at : (h : List Entry) (t limit : ℕ) (saves : List (List ℕ)) (ends : List ℕ) (i end : ℕ)
     → HasSaves h t limit saves ends → slice_get ends i ≡ Some end → SaveAt h t saves i end
 save_at h t limit [] [] i end has at = absurd (cc)
-save_at h t limit (k ∷ saves) (e ∷ ends) zero end has at =
-    let same : e ≡ end = cc in
-    record { kept = k; is = refl; remembers = subst (Remembers h t k) same has.0 }
-save_at h t limit (k ∷ saves) (e ∷ ends) (suc i) end has at =
-    let rest = save_at h t limit saves ends i end has.2 at in
-    record { kept = rest.kept; is = rest.is; remembers = rest.remembers }
+save_at h t limit (k ∷ saves) (e ∷ ends) zero end has at = grind arith
+save_at h t limit (k ∷ saves) (e ∷ ends) (suc i) end has at = grind (arith, save_at h t limit saves ends i end has.2)
 save_at h t limit [] (e ∷ ends) i end has at = absurd has
 save_at h t limit (k ∷ saves) [] i end has at = absurd has
 
@@ -166,39 +139,21 @@ first_saves h t limit (k ∷ saves) [] n has = absurd has
 same_marks : (f g : ℕ → ℕ → Bool) (h : List Entry) → AllByRecursion (λ e. f e.txn e.number ≡ g e.txn e.number) h
     → map (marked f) h ≡ map (marked g) h
 same_marks f g [] all = refl
-same_marks f g (e ∷ h) all =
-    let rest = same_marks f g h all.1 in
-    λ j. record { number = e.number; txn = e.txn; op = e.op; answer = e.answer; crossed = e.crossed || all.0 j } ∷ rest
-    j
+same_marks f g (e ∷ h) all = grind (arith, same_marks f g h all.1)
 
 above_or_kept : (u t n end : ℕ) (any : Bool) → (u ≡ t → (any ≡ true) ↔ (n ≤ end))
     → ((u == t) && not any) ≡ ((u == t) && nat_lt end n)
-above_or_kept u t n end any same =
-    elim (cases_eq u t) [
-      | inr apart ↦ ap (λ (b : Bool). b && not any) (ne_eqb u t apart)
-          ∙ sym (ap (λ (b : Bool). b && nat_lt end n) (ne_eqb u t apart))
-      | inl e ↦ ap (λ b. (u == t) && b) (by any (same e))
-    ]
-  where
-    by : (any : Bool) → (any ≡ true) ↔ (n ≤ end) → not any ≡ nat_lt end n
-    by true same = sym (le-ltb end n (same.0 refl))
-    by false same = elim (cases_lt end n)
-        [ inl lt ↦ sym (lt-ltb end n lt) | inr le ↦ absurd (true≢false (sym (same.1 le))) ]
+above_or_kept u t n end any same = grind arith
 
 marks_of : (t end : ℕ) (kept : List ℕ) (h : List Entry)
     → AllByRecursion (λ e. e.txn ≡ t → (list_any (λ j. j == e.number) kept ≡ true) ↔ (e.number ≤ end)) h
     → AllByRecursion (λ e. ((e.txn == t) && not (list_any (λ j. j == e.number) kept))
     ≡ ((e.txn == t) && nat_lt end e.number)) h
 marks_of t end kept [] all = tt
-marks_of t end kept (e ∷ h) all =
-    (above_or_kept e.txn t e.number end (list_any (λ j. j == e.number) kept) all.0, marks_of t end kept h all.1)
+marks_of t end kept (e ∷ h) all = grind (arith, marks_of t end kept h all.1, above_or_kept)
 
 swap_out : (b c l : Bool) → (not b && (not c && (not l && true))) ≡ (not c && (not l && not b))
-swap_out true true l = refl
-swap_out true false true = refl
-swap_out true false false = refl
-swap_out false c true = refl
-swap_out false c false = refl
+swap_out b c l = grind arith
 
 module _ (v : View) (m : Machine) (t s end : ℕ) (stands : StandsFor v m) (idle : v.doing t ≡ Some Ready) (some : 1 ≤ s)
     (at_end : slice_get (v.saves t) (s - 1) ≡ Some end) where
@@ -210,19 +165,7 @@ module _ (v : View) (m : Machine) (t s end : ℕ) (stands : StandsFor v m) (idle
 
   past_agrees : (n u : ℕ) (q : Op) → IsOpBy v.log n u q
       → Agrees v.log v.log (λ e. not (past e.txn e.number) && counts v e) (counts back) n u q
-  past_agrees n u q by = Both refl refl (λ a. elim (cases_eq u t) [
-    | inr apart ↦
-        ap (λ (b : Bool). not (b && nat_lt end n) && counts v (as_entry v.log n u q a)) (ne_eqb u t apart)
-        ∙ counts_same v n u (is_crossed v.log n) (back.doing u)
-        (put_other v.doing t (Some (Rolls (Some s) end)) u apart)
-    | inl e ↦
-        ap (λ (b : Bool). not (b && nat_lt end n) && counts v (as_entry v.log n u q a)) (eq-eqb u t e)
-        ∙ ap (λ d. not (nat_lt end n) && (not (is_crossed v.log n) && (not (v.loses u) && not (is_to_undo d n))))
-        (ap v.doing e ∙ idle)
-        ∙ swap_out (nat_lt end n) (is_crossed v.log n) (v.loses u)
-        ∙ sym (ap (λ d. not (is_crossed v.log n) && (not (v.loses u) && not (is_to_undo d n)))
-        (ap back.doing e ∙ put_same v.doing t (Some (Rolls (Some s) end))))
-  ])
+  past_agrees n u q by = grind arith
 
   pub goes_back_so : LeadsOn v m (GoesBack t s) (after_go_back v t s end)
   goes_back_so =

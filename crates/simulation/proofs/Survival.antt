@@ -1,5 +1,5 @@
 -- What a crash makes of one transaction.
-use Rattle.std.proofs.Common.{◌≡◌, ℕ, ◌<◌, ◌≤◌, Bool, true, false, List, [], ◌∷◌, ◌++◌, length, Some, None, refl, sym, ◌∙◌, subst, arith, inl, inr, ◌⊎◌, true≢false}
+use Rattle.std.proofs.Common.{rules, ◌≡◌, ℕ, ◌<◌, ◌≤◌, Bool, true, false, List, [], ◌∷◌, ◌++◌, length, Some, None, refl, sym, ◌∙◌, subst, arith, inl, inr, ◌⊎◌, true≢false}
 use Rattle.std.specs.Prelude.{◌↔◌, nat_lt, not}
 use Rattle.std.specs.List.{AllByRecursion}
 use Rattle.std.proofs.lemmas.Bool.{cases_Bool, cases_lt, and_parts, not-true, lt-ltb, le-ltb}
@@ -67,10 +67,7 @@ none_after [] t n k legal end step less = absurd (cc)
 none_after (r ∷ log) t n k legal end step less =
     let at : IsNumber (r ∷ log) n = end_number (r ∷ log) t n end in
     let number : IsNumber (r ∷ log) k = step_number (r ∷ log) k t step in
-    let older : IsNumber log n = record {
-      positive = at.positive;
-      bounded = let bounded = number.bounded in omega (arith, bounded, less);
-    } in
+    let older : IsNumber log n = search (rules, arith) in
     let was : IsEndOf log t n = elim end [
       | inl e ↦ inl (had_at (λ x. x ≡ Some (is.Commit t)) r log n older e)
       | inr e ↦ inr (had_at (λ x. x ≡ Some (is.End t)) r log n older e)

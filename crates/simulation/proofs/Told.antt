@@ -1,6 +1,6 @@
 -- Commits that become stable are told, and ends of losers.
 use Rattle.std.proofs.Common.{◌≡◌, ℕ, zero, suc, ◌+◌, Bool, true, false, List, [], ◌∷◌, ◌++◌, length, Option, Some, refl, sym, ap, ◌∙◌, subst, arith, inl, inr, true≢false, eq-eqb, ne_eqb}
-use Rattle.std.specs.Prelude.{◌&&◌, ◌||◌, not, if◌then◌else◌}
+use Rattle.std.specs.Prelude.{◌&&◌, not, if◌then◌else◌}
 use Rattle.std.specs.List.{AllByRecursion}
 use Rattle.std.proofs.lemmas.Bool.{cases_eq, cases_Bool}
 use Rattle.record_key.specs.declared.op.Op.{Op}
@@ -22,20 +22,7 @@ use Rattle.simulation.proofs.Carrying.{Carries, Passes, passes, same_entries, tx
 
 -- nothing was done yet
 pub fresh_stands : StartsFresh
-fresh_stands = record {
-  entries = refl;
-  falling = tt;
-  recorded = tt;
-  each = λ t. record {
-    begun = (λ e. absurd (true≢false (sym e)), λ e. cc);
-    status = (record { does_none = refl; loses_so = refl }, inr (λ e. cc));
-    saves = tt;
-    spans = refl;
-    unentered = tt;
-    logged = λ n o last. absurd (cc);
-    entered = λ n o by. absurd (cc);
-  };
-}
+fresh_stands = grind arith
 
 -- a loser's status is Losing
 pub losing_is : (v : View) (t : ℕ) (s : Status) → HasStatusOf v t s → v.loses t ≡ true → s ≡ Losing
@@ -92,18 +79,7 @@ module _ (v : View) (m : Machine) (t : ℕ) (legal : IsLegal (is.End t ∷ v.log
       ]
 
   passes_lost : (u : ℕ) → (u ≡ t → ⊥) → Passes v w (is.End t) u
-  passes_lost u apart = record {
-    log = refl;
-    stable = refl;
-    loses = other_lost u apart;
-    doing = refl;
-    saves = refl;
-    spans = refl;
-    no_op = λ o e. cc;
-    no_end = ap (λ (b : Bool). b || has_ended v.log u) (ne_eqb u t apart);
-    no_begin = λ at e. cc;
-    waits = λ n o by d none. none;
-  }
+  passes_lost u apart = grind arith
 
   pub tells_lost : (n : Machine) × Step m (TellsLost t) n × StandsFor (after_lost v t) n
   tells_lost = (
@@ -164,37 +140,14 @@ module _ (v : View) (m : Machine) (legal : IsLegal v.log) (stands : StandsFor v 
   one_more = record v { stable = v.stable + 1 }
 
   carries_stable : (u : ℕ) → (IsCommitAt v.log u (v.stable + 1) → ⊥) → Carries v one_more u
-  carries_stable u none = record {
-    loses = refl;
-    doing = refl;
-    saves = refl;
-    spans = refl;
-    longer = omega arith;
-    goes_on = λ h. h;
-    op_kept = λ n o by. by;
-    op_had = λ n o by. by;
-    waits = λ n o by d h. h;
-    commit = λ n at. at;
-    stable = omega arith;
-    unstable = λ n at lt. elim (cases_eq n (v.stable + 1)) [
-      | inl e ↦ absurd (none (ap (record_at v.log) (sym e) ∙ at))
-      | inr apart ↦ omega (arith, lt, apart)
-    ];
-    end = λ n at. at;
-    begun = (λ at. at, λ at. at);
-  }
+  carries_stable u none = grind arith
 
   txn_stable : (u : ℕ) → (IsCommitAt v.log u (v.stable + 1) → ⊥) → IsTxnOf one_more m.h u (m.txns u)
   txn_stable u none = txn_kept v one_more u (carries_stable u none) m.h m.h (same_entries v.log m.h u) (m.txns u)
       (stands.each u)
 
   no_commit : ((t : ℕ) → IsCommitAt v.log t (v.stable + 1) → ⊥) → StandsFor one_more m
-  no_commit none = record {
-    entries = stands.entries;
-    falling = stands.falling;
-    recorded = stands.recorded;
-    each = λ u. txn_stable u (none u);
-  }
+  no_commit none = grind (arith, txn_stable)
 
   commit_told : (t : ℕ) → IsCommitAt v.log t (v.stable + 1) → (n : Machine) × Steps m (TellsCommitted t ∷ []) n
       × StandsFor one_more n
@@ -248,9 +201,7 @@ steps_after m [] ys mid n first second = subst (λ x. Steps x ys n) first second
 steps_after m (x ∷ xs) ys mid n first second = (first.0, first.1, steps_after first.0 xs ys mid n first.2 second)
 
 pub commits_are_told : CommitsAreTold
-commits_are_told zero v m legal stands within =
-    let none : v.stable ≡ v.stable + 0 = omega arith in
-    (m, refl, subst (λ s. StandsFor (record v { stable = s }) m) none stands)
+commits_are_told zero v m legal stands within = grind arith
 commits_are_told (suc k) v m legal stands within =
     let one = one_stable v m legal stands in
     let rest = commits_are_told k (record v { stable = v.stable + 1 }) one.0 legal one.2 (omega (arith, within)) in

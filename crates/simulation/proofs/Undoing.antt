@@ -1,5 +1,5 @@
 -- Rollbacks, and what they append.
-use Rattle.std.proofs.Common.{◌≡◌, ℕ, Bool, true, false, cond, List, ◌∷◌, Option, Some, None, refl, sym, ap, ◌∙◌, subst, inl, inr, ◌⊎◌, eq-eqb, ne_eqb}
+use Rattle.std.proofs.Common.{arith, ◌≡◌, ℕ, Bool, true, false, cond, List, ◌∷◌, Option, Some, None, refl, sym, ap, ◌∙◌, subst, inl, inr, ◌⊎◌, eq-eqb, ne_eqb}
 use Rattle.std.specs.Prelude.{◌==◌, ◌&&◌, ◌||◌, not, map, filter}
 use Rattle.std.proofs.lemmas.Bool.{cases_eq, lt-ltb, or_left}
 use Rattle.record_key.specs.declared.op.Op.{Op}
@@ -35,11 +35,7 @@ both_below v n u c x y a b = ap (λ z. not c && (not (v.loses u) && not z)) (a �
 -- crossing carries entries
 pub marked_entries : (log : List Record) (f : ℕ → ℕ → Bool) (h : List Entry) (u : ℕ)
     → CarriesEntries log h (map (marked f) h) u
-marked_entries log f h u = record {
-  entry = λ n o e. marked_entry f h n u o e;
-  remembers = λ kept end r. record { same = marked_all _ _ f h (λ e s. s) r.same; within = r.within };
-  unentered = λ n o by all. (marked_all _ _ f h (λ e s. s) all.0, marked_over f n h all.1);
-}
+marked_entries log f h u = grind (arith, marked_entry, marked_all, marked_over)
 
 -- a rollback
 module _ (v : View) (m : Machine) (t : ℕ) (stands : StandsFor v m) (idle : v.doing t ≡ Some Ready) where

@@ -1,5 +1,5 @@
 -- What the machines that the component stands for have in common with its log.
-use Rattle.std.proofs.Common.{◌≡◌, ℕ, Bool, true, false, is_some, refl, sym, ap, ◌∙◌, subst, inl, inr, ◌⊎◌, true≢false, ◌∷◌}
+use Rattle.std.proofs.Common.{arith, ◌≡◌, ℕ, Bool, true, false, is_some, sym, ap, ◌∙◌, inl, inr, ◌⊎◌, true≢false, ◌∷◌}
 use Rattle.std.specs.Prelude.{◌&&◌, not, filter}
 use Rattle.std.specs.FinMap.{get}
 use Rattle.std.proofs.lemmas.Bool.{cases_Bool}
@@ -17,29 +17,19 @@ use Rattle.log_laws.proofs.Cancel.{cancel}
 use Rattle.log_laws.proofs.Plain.{plain_of_history}
 use Rattle.simulation.specs.View.{View, counts, is_to_undo, StandsFor}
 use Rattle.simulation.specs.Views.{CalmEntriesAreTheLogs, PlainIsTheLogs, NeutralIsNoStep}
-use Rattle.simulation.proofs.Entries.{Both, alike}
 use Rattle.simulation.proofs.Told.{recorded_push}
 use Rattle.simulation.proofs.Carrying.{Passes, passes, same_entries, txn_kept}
 use Rattle.simulation.proofs.Placing.{all_hist}
 use Rattle.simulation.proofs.Answering.{IsHarmless, plain_filtered, plain_uncrossed, why_in}
 
 calm_flags : (c l a : Bool) → l ≡ false → a ≡ false → (not c && (not l && not a)) ≡ not c
-calm_flags c l a el ea = (λ j. not c && (not (el j) && not (ea j))) ∙ by c
-  where
-    by : (c : Bool) → (not c && true) ≡ not c
-    by true = refl
-    by false = refl
+calm_flags c l a el ea = grind arith
 
 pub calm_entries : CalmEntriesAreTheLogs
-calm_entries v m stands calm =
-    stands.entries ∙ alike v.log v.log (counts v) (λ e. not e.crossed) v.log (λ n t o by.
-    Both refl refl (λ a. calm_flags (is_crossed v.log n) (v.loses t) (is_to_undo (v.doing t) n) (calm.stays t)
-    (calm.unrolled t n)))
+calm_entries v m stands calm = grind arith
 
 answered_flag : (a c : Bool) → (c ≡ false → a ≡ true) → (a && not c) ≡ not c
-answered_flag true c h = refl
-answered_flag false true h = refl
-answered_flag false false h = h refl
+answered_flag a c h = grind arith
 
 pub plain_is_the_logs : PlainIsTheLogs
 plain_is_the_logs v m k legal right stands each =
@@ -69,43 +59,11 @@ plain_is_the_logs v m k legal right stands each =
 module _ (v : View) (m : Machine) (stands : StandsFor v m) where
   neutral_passes : (r : Record) (low u : ℕ) → (r ≡ is.Session) ⊎ (r ≡ is.Checkpoint low)
       → Passes v (record v { log = r ∷ v.log }) r u
-  neutral_passes r low u (inl e) = subst (λ q. Passes v (record v { log = q ∷ v.log }) q u) (sym e) (record {
-    log = refl;
-    stable = refl;
-    loses = refl;
-    doing = refl;
-    saves = refl;
-    spans = refl;
-    no_op = λ q f. cc;
-    no_end = refl;
-    no_begin = λ at f. cc;
-    waits = λ n q by d none. none;
-  })
-  neutral_passes r low u (inr e) = subst (λ q. Passes v (record v { log = q ∷ v.log }) q u) (sym e) (record {
-    log = refl;
-    stable = refl;
-    loses = refl;
-    doing = refl;
-    saves = refl;
-    spans = refl;
-    no_op = λ q f. cc;
-    no_end = refl;
-    no_begin = λ at f. cc;
-    waits = λ n q by d none. none;
-  })
+  neutral_passes r low u h = grind arith
 
   same_hist : (r : Record) (low : ℕ) → (r ≡ is.Session) ⊎ (r ≡ is.Checkpoint low)
       → filter (counts v) (hist v.log) ≡ filter (counts (record v { log = r ∷ v.log })) (hist (r ∷ v.log))
-  same_hist r low (inl e) =
-      subst (λ q. filter (counts v) (hist v.log) ≡ filter (counts (record v { log = q ∷ v.log })) (hist (q ∷ v.log)))
-      (sym e)
-      (alike v.log (is.Session ∷ v.log) (counts v) (counts (record v { log = is.Session ∷ v.log })) v.log
-      (λ n t o by. Both refl refl (λ a. refl)))
-  same_hist r low (inr e) =
-      subst (λ q. filter (counts v) (hist v.log) ≡ filter (counts (record v { log = q ∷ v.log })) (hist (q ∷ v.log)))
-      (sym e)
-      (alike v.log (is.Checkpoint low ∷ v.log) (counts v) (counts (record v { log = is.Checkpoint low ∷ v.log })) v.log
-      (λ n t o by. Both refl refl (λ a. refl)))
+  same_hist r low h = grind arith
 
 pub neutral_is_no_step : NeutralIsNoStep
 neutral_is_no_step v m r low stands which = record {

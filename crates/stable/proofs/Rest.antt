@@ -25,25 +25,29 @@ rests_weaker {𝓤 = 𝓤} 𝓛 R device P Q weaker =
 
 -- A method that lends a part of the device tells what its trait does, where its last clause is stronger and it has one
 -- clause more, its first.
-pub reading_meets : {M : Type 1} (𝓤 : Ura M) (R X : Type 0) (own device value error : R → X → Type 0)
+pub reading_meets : {M : Type 1} (𝓤 : Ura M) (R X : Type 0) (own set device value error : R → X → Type 0)
     (Last Last' : R → X → SProp 𝓤)
     → ((r : R) (e : X) → ent 𝓤 (Last r e) (Last' r e))
     → ent 𝓤 (emp 𝓤) (ex 𝓤 (λ (_ : Unit {0}). sep 𝓤 (emp 𝓤)
-    (Turns 𝓤 R X (λ r e. sep 𝓤 (fact 𝓤 (own r e))
-    (sep 𝓤 (fact 𝓤 (device r e)) (sep 𝓤 (fact 𝓤 (value r e)) (sep 𝓤 (fact 𝓤 (error r e)) (Last r e)))))
-    (λ r e. sep 𝓤 (fact 𝓤 (device r e)) (sep 𝓤 (fact 𝓤 (value r e)) (sep 𝓤 (fact 𝓤 (error r e)) (Last' r e)))))))
-reading_meets 𝓤 R X own device value error Last Last' weaker =
+    (Turns 𝓤 R X (λ r e. sep 𝓤 (fact 𝓤 (own r e)) (sep 𝓤 (fact 𝓤 (set r e))
+    (sep 𝓤 (fact 𝓤 (device r e)) (sep 𝓤 (fact 𝓤 (value r e)) (sep 𝓤 (fact 𝓤 (error r e)) (Last r e))))))
+    (λ r e. sep 𝓤 (fact 𝓤 (set r e))
+    (sep 𝓤 (fact 𝓤 (device r e)) (sep 𝓤 (fact 𝓤 (value r e)) (sep 𝓤 (fact 𝓤 (error r e)) (Last' r e))))))))
+reading_meets 𝓤 R X own set device value error Last Last' weaker =
     let Own : R → X → SProp 𝓤 = λ r e. fact 𝓤 (own r e) in
+    let Set : R → X → SProp 𝓤 = λ r e. fact 𝓤 (set r e) in
     let Fails : R → X → SProp 𝓤 = λ r e. fact 𝓤 (device r e) in
     let Value : R → X → SProp 𝓤 = λ r e. fact 𝓤 (value r e) in
     let Error : R → X → SProp 𝓤 = λ r e. fact 𝓤 (error r e) in
-    let Told : R → X → SProp 𝓤 = λ r e. sep 𝓤 (Fails r e) (sep 𝓤 (Value r e) (sep 𝓤 (Error r e) (Last r e))) in
+    let Told : R → X → SProp 𝓤 = λ r e.
+    sep 𝓤 (Set r e) (sep 𝓤 (Fails r e) (sep 𝓤 (Value r e) (sep 𝓤 (Error r e) (Last r e)))) in
     let D : R → X → SProp 𝓤 = λ r e. sep 𝓤 (Own r e) (Told r e) in
-    let D' : R → X → SProp 𝓤 = λ r e. sep 𝓤 (Fails r e) (sep 𝓤 (Value r e) (sep 𝓤 (Error r e) (Last' r e))) in
+    let D' : R → X → SProp 𝓤 = λ r e.
+    sep 𝓤 (Set r e) (sep 𝓤 (Fails r e) (sep 𝓤 (Value r e) (sep 𝓤 (Error r e) (Last' r e)))) in
     let W : SProp 𝓤 = Turns 𝓤 R X D D' in
     let less : (r : R) (e : X) → ent 𝓤 (D r e) (D' r e) =
     λ r e. via 𝓤 (Told r e) (snd∗ 𝓤 (Own r e) (Told r e))
-    (mono_r 𝓤 (Fails r e) (mono_r 𝓤 (Value r e) (mono_r 𝓤 (Error r e) (weaker r e)))) in
+    (mono_r 𝓤 (Set r e) (mono_r 𝓤 (Fails r e) (mono_r 𝓤 (Value r e) (mono_r 𝓤 (Error r e) (weaker r e))))) in
     let turns : ent 𝓤 (emp 𝓤) W =
     all_i 𝓤 (λ (r : R). all 𝓤 (λ (e : X). wand 𝓤 (D r e) (D' r e)))
     (λ r. all_i 𝓤 (λ (e : X). wand 𝓤 (D r e) (D' r e)) (λ e.

@@ -1,5 +1,5 @@
 -- How a device has been used, and which of its calls fails. Counts that contracts alone see, without a last value.
-use Rattle.std.specs.Prelude.{ℕ, ◌+◌, ◌||◌, Bool, false, nat_le, Option, Some, None, Result, Ok, Err}
+use Rattle.std.specs.Prelude.{ℕ, ◌+◌, ◌||◌, Bool, false, nat_le, Option, Some, None, Result, Ok, Err, if◌then◌else◌}
 use Rattle.stable.specs.declared.error.DeviceError.{DeviceError}
 use Rattle.stable.specs.declared.error.DeviceError.TheVariants.{NoMemory, Device}
 
@@ -26,12 +26,21 @@ is_next (Some n) calls = nat_le n (calls + 1)
 abbrev pub is_due : Usage → Bool
 is_due u = u.freely || is_next u.failing u.calls
 
--- one call more, which succeeded, or failed: a failure that was set happens once
+-- the next call was set to fail
+abbrev pub is_set : Usage → Bool
+is_set u = is_next u.failing u.calls
+
+-- which call is set to fail once one more was made, after so many: what was set happens once
+abbrev pub still_failing : Option ℕ → ℕ → Option ℕ
+still_failing None calls = None
+still_failing (Some n) calls = if nat_le n (calls + 1) then None else Some n
+
+-- one call more, which succeeded, or failed: one that fails otherwise leaves the failure that was set still to come
 abbrev pub called : Usage → Usage
 called u = record u { calls = u.calls + 1 }
 
 abbrev pub failed : Usage → Usage
-failed u = record u { calls = u.calls + 1; failures = u.failures + 1; failing = None }
+failed u = record u { calls = u.calls + 1; failures = u.failures + 1; failing = still_failing u.failing u.calls }
 
 -- after a call that gave this answer: one that is refused for memory isn't counted
 abbrev pub used : {T : Type 0} → Usage → Result T DeviceError → Usage

@@ -1,8 +1,8 @@
 //! What a log device promises.
-ghost use Rattle.std.specs.Prelude.{◌≡◌, ℕ, ◌≤◌, Bool, true, List, [], ◌++◌, take, length, IsTrue, OnOk, OnErr, IfOk, IsErrOf, IsOkUnless};
+ghost use Rattle.std.specs.Prelude.{◌≡◌, ℕ, ◌≤◌, Bool, true, false, List, [], ◌++◌, take, length, IsTrue, OnOk, OnErr, IfOk, IsErrOf, IsOkUnless};
 ghost use Rattle.std.specs.Borrow.{sem};
 ghost use Rattle.stable.specs.Device.{ForcesPart, Rests};
-ghost use Rattle.stable.specs.Usage.{Usage, is_due, used};
+ghost use Rattle.stable.specs.Usage.{Usage, is_due, is_set, used};
 
 use crate::error::DeviceError;
 use crate::spelling::Spelling;
@@ -26,6 +26,7 @@ pub trait LogDevice {
         ensures forced { forced self.new ≡ forced self.old }
         ensures appended { OnOk result (pending self.new ≡ pending self.old ++ bytes.now) }
         ensures err { OnErr result (pending self.new ≡ pending self.old) }
+        ensures set { OnOk result (is_set (usage self.old) ≡ false) }
         ensures device { IsErrOf result DeviceError.Device → IsTrue (is_due (usage self.old)) }
         ensures used { usage self.new ≡ used (usage self.old) result };
 
@@ -35,6 +36,7 @@ pub trait LogDevice {
         ensures forced { forced self.new ≡ forced self.old }
         ensures appended { OnOk result (pending self.new ≡ pending self.old ++ S.bytes what.now) }
         ensures err { OnErr result (pending self.new ≡ pending self.old) }
+        ensures set { OnOk result (is_set (usage self.old) ≡ false) }
         ensures device { IsErrOf result DeviceError.Device → IsTrue (is_due (usage self.old)) }
         ensures used { usage self.new ≡ used (usage self.old) result }
         ensures shown { S.shows what.now };
@@ -47,6 +49,7 @@ pub trait LogDevice {
             (forced self.new) (pending self.new)) }
         ensures whole { OnErr result (forces_whole ≡ true → forced self.new ≡ forced self.old) }
         ensures no_memory { IsOkUnless result DeviceError.Device }
+        ensures set { OnOk result (is_set (usage self.old) ≡ false) }
         ensures device { IsErrOf result DeviceError.Device → IsTrue (is_due (usage self.old)) }
         ensures used { usage self.new ≡ used (usage self.old) result };
 
@@ -58,11 +61,13 @@ pub trait LogDevice {
         ensures err { OnErr result (forced self.new ≡ forced self.old) }
         ensures none_pending { pending self.new ≡ [] }
         ensures no_memory { IsOkUnless result DeviceError.Device }
+        ensures set { OnOk result (is_set (usage self.old) ≡ false) }
         ensures device { IsErrOf result DeviceError.Device → IsTrue (is_due (usage self.old)) }
         ensures used { usage self.new ≡ used (usage self.old) result };
 
     /// All bytes, the forced ones first: the call by which a log is read when it is opened. They are lent and not copied.
     fn bytes(&mut self) -> Result<&[u8], DeviceError>
+        ensures set { OnOk result (is_set (usage self.old) ≡ false) }
         ensures device { IsErrOf result DeviceError.Device → IsTrue (is_due (usage self.old)) }
         ensures value { IfOk result (λ bytes. bytes.now ≡ forced self.old ++ pending self.old) }
         ensures no_memory { IsOkUnless result DeviceError.Device }

@@ -4,7 +4,7 @@ ghost use Rattle.std.specs.Borrow.{sem};
 ghost use Rattle.stable.specs.Crash.{MayLeave};
 ghost use Rattle.stable.specs.Device.{Rests};
 ghost use Rattle.stable.specs.LogState.{with_bytes, log_after};
-ghost use Rattle.stable.specs.Usage.{is_due, unused, failing_in};
+ghost use Rattle.stable.specs.Usage.{is_due, is_set, unused, failing_in};
 
 use crate::crash_device::CrashLog;
 use crate::error::DeviceError;
@@ -137,6 +137,7 @@ impl LogDevice for MemLog {
 
     fn bytes(&mut self) -> Result<&[u8], DeviceError>
         ensures due { OnOk result (is_due self.old.usage ≡ false) }
+        ensures set { OnOk result (is_set self.old.usage ≡ false) }
         ensures device { IsErrOf result DeviceError.Device → IsTrue (is_due self.old.usage) }
         ensures value { IfOk result (λ bytes. bytes.now ≡ self.old.forced ++ self.old.pending) }
         ensures no_memory { IsOkUnless result DeviceError.Device }

@@ -9,7 +9,7 @@ ghost use Rattle.std.specs.Ordering.{nat_cmp};
 ghost use Rattle.std.specs.Vec.{vec_capacity};
 ghost use Rattle.stable.specs.Device.{Rests};
 ghost use Rattle.stable.specs.PagesState.{pages_of, rooms_of, has_room, pages_after};
-ghost use Rattle.stable.specs.Usage.{is_due, used, unused, failing_in};
+ghost use Rattle.stable.specs.Usage.{is_due, is_set, used, unused, failing_in};
 
 use crate::crash_device::CrashPages;
 use crate::error::DeviceError;
@@ -102,6 +102,7 @@ impl PageDevice for MemPages {
 
     fn read(&mut self, id: u64) -> Result<Option<&[u8]>, DeviceError>
         ensures due { OnOk result (is_due self.old.usage ≡ false) }
+        ensures set { OnOk result (is_set self.old.usage ≡ false) }
         ensures device { IsErrOf result DeviceError.Device → IsTrue (is_due self.old.usage) }
         ensures value { IfOk result (λ image.
             option_map (λ bytes. bytes.now) image ≡ map.get self.old.pages id) }

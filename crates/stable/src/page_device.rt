@@ -6,7 +6,7 @@ ghost use Rattle.std.specs.List.Sorted.{IsStrictlyIncreasing};
 ghost use Rattle.std.specs.Option.{option_map};
 ghost use Rattle.stable.specs.Device.{Rests};
 ghost use Rattle.stable.specs.PagesState.{Pages};
-ghost use Rattle.stable.specs.Usage.{Usage, is_due, used};
+ghost use Rattle.stable.specs.Usage.{Usage, is_due, is_set, used};
 
 use crate::error::DeviceError;
 use std::alloc::{AllocError, Global};
@@ -39,11 +39,13 @@ pub trait PageDevice {
         ensures err { OnErr result (pages self.new ≡ pages self.old) }
         ensures no_room { IsErrOf result DeviceError.NoMemory → has_room self.old id (length image.now) ≡ false }
         ensures kept { (other n : ℕ) → has_room self.old other n ≡ true → has_room self.new other n ≡ true }
+        ensures set { OnOk result (is_set (usage self.old) ≡ false) }
         ensures device { IsErrOf result DeviceError.Device → IsTrue (is_due (usage self.old)) }
         ensures used { usage self.new ≡ used (usage self.old) result };
 
     /// The image of a page, or none where it was never written. It is lent and not copied.
     fn read(&mut self, id: u64) -> Result<Option<&[u8]>, DeviceError>
+        ensures set { OnOk result (is_set (usage self.old) ≡ false) }
         ensures device { IsErrOf result DeviceError.Device → IsTrue (is_due (usage self.old)) }
         ensures value { IfOk result (λ image.
             option_map (λ bytes. bytes.now) image ≡ map.get (pages self.old) id) }
@@ -57,6 +59,7 @@ pub trait PageDevice {
         ensures written { IfOk result (λ ids. ids.items ≡ map.keys (pages self.old)) }
         ensures rising { IfOk result (λ ids. IsStrictlyIncreasing ids.items) }
         ensures same { pages self.new ≡ pages self.old }
+        ensures set { OnOk result (is_set (usage self.old) ≡ false) }
         ensures device { IsErrOf result DeviceError.Device → IsTrue (is_due (usage self.old)) }
         ensures used { usage self.new ≡ used (usage self.old) result };
 }

@@ -7,9 +7,7 @@ use Rattle.log_laws.proofs.conditions.latest_left.Goals as goal
 use Rattle.log_laws.proofs.conditions.latest_left.Goals.{then-is_left, else-is_left}
 
 pub loop-place-init : goal.loop-place-init
-loop-place-init c =
-    latest_none (λ n. Stands (reverse c.args.log.now) c.args.txn n × (n < c.args.below))
-    (λ h. omega (arith, (stands_number (reverse c.args.log.now) c.args.txn 0 h.0).positive))
+loop-place-init c = grind (arith, latest_none, stands_number)
 
 pub returns : goal.returns
 returns c =

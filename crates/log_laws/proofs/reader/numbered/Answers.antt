@@ -7,6 +7,4 @@ pub returns-then-number-eq0 : goal.returns-then-number-eq0
 returns-then-number-eq0 c = sym (beyond (reverse c.args.log.now) c.args.number (λ _ h. omega arith))
 
 pub returns-else-number-eq0 : goal.returns-else-number-eq0
-returns-else-number-eq0 c =
-    read_at c.args.log.now c.args.number c.get.result c.if-number-eq0.false c.get.ensures.lookup.0
-    c.get.ensures.lookup.1
+returns-else-number-eq0 c = grind (arith, read_at)

@@ -1,5 +1,4 @@
-use Rattle.std.proofs.Common.{refl, ap, ◌∙◌}
-use Rattle.ab_lsn.specs.AbLsn.{AbLsnView, captures}
+use Rattle.std.proofs.Common.{arith}
 use Rattle.ab_lsn.proofs.Capturing.{raised_rises, joined_captures}
 use Rattle.ab_lsn.proofs.ab_lsn.AbLsn.join.Goals as goal
 
@@ -11,17 +10,7 @@ place_all-requires c =
     c.self.invariant)
 
 pub returns-clause-joined : goal.returns-clause-joined
-returns-clause-joined c =
-    let kept = c.keep_above-low.ensures in
-    rw (
-      ← c.self.view_is,
-      ← c.other.view_is,
-      c.in_ok-place_all.ensures.placed,
-      kept.low,
-      kept.kept,
-      c.in_ok-entries.ensures.copied,
-    ) refl
+returns-clause-joined c = grind arith
 
 pub returns-clause-captured : goal.returns-clause-captured
-returns-clause-captured c = λ m.
-    ap (λ (v : AbLsnView). captures v m) (returns-clause-joined c) ∙ joined_captures c.args.self.now c.args.other.now m
+returns-clause-captured c = grind (arith, returns-clause-joined, joined_captures)

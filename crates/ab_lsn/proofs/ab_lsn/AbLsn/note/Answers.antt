@@ -1,4 +1,4 @@
-use Rattle.std.proofs.Common.{◌≡◌, ℕ, ap, sym, ◌∙◌, List, false}
+use Rattle.std.proofs.Common.{arith, ◌≡◌, ℕ, ap, ◌∙◌, List}
 use Rattle.std.specs.List.{insert}
 use Rattle.record_key.specs.Table.{Bytes}
 use Rattle.record_key.specs.declared.op.Answer.{Answer}
@@ -14,20 +14,10 @@ pub place_of-requires : goal.place_of-requires
 place_of-requires c = rises c.self.inside.low c.self.inside.entries c.self.invariant
 
 pub unreachable-requires : goal.unreachable-requires
-unreachable-requires c =
-    let v : AbLsnView = record { low = c.self.inside.low; entries = c.self.inside.entries } in
-    let out : captures v c.args.number ≡ false =
-    ap (λ (v : AbLsnView). captures v c.args.number) c.self.view_is ∙ c.requires in
-    no_place c.args.number v.entries c.in-Ok.field-0 (uncaptured v c.args.number out).1 c.in-Ok.ensures.place
+unreachable-requires c = grind (arith, no_place, uncaptured)
 
 pub invariant_of-self : goal.invariant_of-self
-invariant_of-self c =
-    let v : AbLsnView = record { low = c.self.inside.low; entries = c.self.inside.entries } in
-    let out : captures v c.args.number ≡ false =
-    ap (λ (v : AbLsnView). captures v c.args.number) c.self.view_is ∙ c.requires in
-    rw c.in_ok-insert-in-Err.ensures.inserted
-    (noted_rises v (record { number = c.args.number; key = c.args.key.now; answer = answer_lent c.args.answer.now })
-    c.in-Err.gap c.self.invariant out c.in-Err.ensures.place)
+invariant_of-self c = grind (arith, noted_rises)
 
 put : (v : AbLsnView) (n : ℕ) (k : Bytes) (a : Answer) (p : ℕ) (es : List Entry)
     → es ≡ insert v.entries p (record { number = n; key = k; answer = a })
@@ -36,13 +26,7 @@ put : (v : AbLsnView) (n : ℕ) (k : Bytes) (a : Answer) (p : ℕ) (es : List En
 put v n k a p es is placed = λ i. record { low = v.low; entries = (is ∙ placed) i }
 
 pub returns-clause-noted : goal.returns-clause-noted
-returns-clause-noted c =
-    let f : Entry = record { number = c.args.number; key = c.args.key.now; answer = answer_lent c.args.answer.now } in
-    rw (← c.self.view_is)
-    (put (record { low = c.self.inside.low; entries = c.self.inside.entries }) c.args.number c.args.key.now
-    (answer_lent c.args.answer.now) c.in-Err.gap c.insert.new.self
-    c.in_ok-insert-in-Err.ensures.inserted
-    (sym (gap_placed f c.self.inside.entries c.in-Err.gap c.in-Err.ensures.place)))
+returns-clause-noted c = grind (arith, put, gap_placed)
 
 pub returns-clause-captured : goal.returns-clause-captured
 returns-clause-captured c = λ m.

@@ -1,3 +1,4 @@
+use Rattle.std.proofs.Common.{arith}
 use Rattle.ab_lsn.proofs.Popping.{popped_rises, popped_captures}
 use Rattle.ab_lsn.proofs.ab_lsn.AbLsn.pop_above.Goals as goal
 
@@ -7,6 +8,4 @@ invariant_of-self c =
     (popped_rises (record { low = c.self.inside.low; entries = c.self.inside.entries }) c.args.end c.self.invariant)
 
 pub returns-clause-captured : goal.returns-clause-captured
-returns-clause-captured c =
-    rw (← c.self.view_is, c.drop_above.ensures)
-    (popped_captures (record { low = c.self.inside.low; entries = c.self.inside.entries }) c.args.end)
+returns-clause-captured c = grind (arith, popped_captures)

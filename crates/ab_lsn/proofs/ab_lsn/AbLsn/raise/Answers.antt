@@ -1,3 +1,4 @@
+use Rattle.std.proofs.Common.{arith}
 use Rattle.ab_lsn.proofs.Capturing.{raised_rises, raised_captures}
 use Rattle.ab_lsn.proofs.ab_lsn.AbLsn.raise.Goals as goal
 
@@ -8,7 +9,4 @@ invariant_of-self c =
     (raised_rises (record { low = c.self.inside.low; entries = c.self.inside.entries }) c.args.low c.self.invariant)
 
 pub returns-clause-captured : goal.returns-clause-captured
-returns-clause-captured c =
-    let kept = c.keep_above-self-inside.ensures in
-    rw (← c.self.view_is, kept.low, kept.kept)
-    (raised_captures (record { low = c.self.inside.low; entries = c.self.inside.entries }) c.args.low)
+returns-clause-captured c = grind (arith, raised_captures)

@@ -1,4 +1,4 @@
-use Rattle.std.proofs.Common.{◌≡◌, ◌≢◌, ◌<◌, [], sym, ap, ◌∙◌, length, arith}
+use Rattle.std.proofs.Common.{◌≡◌, ◌<◌, sym, ap, ◌∙◌, length, arith}
 use Rattle.std.proofs.lemmas.Grind.{common_steps}
 use Rattle.range_locks.specs.Meant.{items_of}
 use Rattle.range_locks.proofs.Leaving.{has_one, nonempty}
@@ -6,16 +6,10 @@ use Rattle.range_locks.proofs.Setting.{untaken_some, untaken_last}
 use Rattle.range_locks.proofs.held.Held.pop.Goals as goal
 
 pub unreachable-requires : goal.unreachable-requires
-unreachable-requires c =
-    let some : c.in-Some.locks.now.items ≢ [] = λ none.
-    has_one c.args.self.now c.args.txn c.requires (ap items_of (sym c.in-Some.ensures.value) ∙ none) in
-    let long : 0 < length c.in-Some.locks.now.items = nonempty _ some in
-    let cases = c.in-None-pop.ensures.cases in
-    grind (arith, common_steps)
+unreachable-requires c = grind (arith, has_one, nonempty)
 
 pub unreachable-requires-in-None : goal.unreachable-requires-in-None
-unreachable-requires-in-None c =
-    has_one c.args.self.now c.args.txn c.requires (ap items_of (sym c.in-None.ensures.value))
+unreachable-requires-in-None c = grind (arith, has_one)
 
 pub returns-then-is_empty-clause-untaken : goal.returns-then-is_empty-clause-untaken
 returns-then-is_empty-clause-untaken c =

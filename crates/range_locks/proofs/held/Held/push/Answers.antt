@@ -1,29 +1,21 @@
-use Rattle.std.proofs.Common.{◌≡◌, ◌∷◌, List, ◌++◌, [], Some, refl, sym, ap, ◌∙◌, subst}
+use Rattle.std.proofs.Common.{arith, ◌≡◌, ◌∷◌, List, ◌++◌, [], sym, ap, ◌∙◌, subst}
 use Rattle.std.specs.Global.{Vec}
-use Rattle.std.specs.BTreeMap.{BTreeMap, Updates, insert_entry}
+use Rattle.std.specs.BTreeMap.{BTreeMap, insert_entry}
 use Rattle.std.specs.Ordering.{nat_cmp}
 use Rattle.range_locks.specs.declared.span.Lock.{Lock}
 use Rattle.range_locks.specs.Meant.{items_of, locks_in, Lists}
-use Rattle.range_locks.proofs.Leaving.{pushed, kept, on_err}
+use Rattle.range_locks.proofs.Leaving.{kept, on_err}
 use Rattle.range_locks.proofs.Setting.{taken_new, taken_over}
 use Rattle.range_locks.proofs.held.Held.push.Goals as goal
 
 pub returns-in_err-push-in-Some-clause-unchanged :
     goal.returns-in_err-push-in-Some-clause-unchanged
-returns-in_err-push-in-Some-clause-unchanged c =
-    let now = c.push.new.self in
-    on_err c.from_residual.result
-    (kept c.args.self.now.by_txn (c.get_mut.follows.lender now) c.args.txn c.in-Some.locks.now now
-    (c.get_mut.follows.holds now).0 c.in-Some.ensures.value c.in_err-push-in-Some.ensures.items)
+returns-in_err-push-in-Some-clause-unchanged c = grind (arith, on_err, kept)
 
 there : (c : goal.In_ok-push-in-Some)
     → Lists c.args.self.now c.args.txn (locks_in c.args.self.now c.args.txn ++ c.args.lock ∷ [])
     (record { by_txn = c.get_mut.follows.lender c.push.new.self })
-there c =
-    let now = c.push.new.self in
-    let found = c.in-Some.ensures.value in
-    pushed c.args.self.now.by_txn (c.get_mut.follows.lender now) c.args.txn now c.in-Some.locks.now.items c.args.lock
-    ((c.get_mut.follows.holds now).3 (rw (sym found) refl)) c.in_ok-push-in-Some.ensures.items (ap items_of found)
+there c = grind arith
 
 pub returns-in_ok-push-in-Some-clause-listed : goal.returns-in_ok-push-in-Some-clause-listed
 returns-in_ok-push-in-Some-clause-listed c = there c
@@ -41,14 +33,7 @@ returns-in_ok-push-in-Some-clause-taken c =
 first : (c : goal.Joined-branch-4)
     → Lists c.args.self.now c.args.txn (locks_in c.args.self.now c.args.txn ++ c.args.lock ∷ [])
     (record { by_txn = c.insert.new.self })
-first c =
-    let now = c.push-in-None.new.self in
-    let updates : Updates nat_cmp c.args.self.now.by_txn c.insert.new.self c.args.txn (Some now) =
-    subst (λ (m : BTreeMap _ (Vec Lock)). Updates nat_cmp m c.insert.new.self c.args.txn (Some now))
-    c.get_mut.follows.holds-at-none c.in_ok-insert-in-None.ensures.updates in
-    let items = rw (c.new-locks.ensures.items) at c.in_ok-push-in-None.ensures.items in
-    pushed c.args.self.now.by_txn c.insert.new.self c.args.txn now [] c.args.lock updates items
-    (ap items_of c.in-None.ensures.value)
+first c = grind arith
 
 pub returns-in_ok-insert-in-None-clause-listed : goal.returns-in_ok-insert-in-None-clause-listed
 returns-in_ok-insert-in-None-clause-listed c = first c

@@ -1,6 +1,5 @@
-use Rattle.std.proofs.Common.{subst}
+use Rattle.std.proofs.Common.{arith}
 use Rattle.range_locks.specs.Least.{IsLeast}
-use Rattle.range_locks.specs.Index.{IsIndexed, IsKept}
 use Rattle.range_locks.proofs.Blocking.{StandsInWay, free_where_none, least_where_some}
 use Rattle.range_locks.proofs.Placing.{forward_as}
 use Rattle.range_locks.proofs.Searching.{places_searched}
@@ -11,13 +10,7 @@ search-requires c = forward_as c.args.lock.now.span c.low.result.now c.first_at.
     c.first_at.ensures c.low.ensures c.keys_to.ensures c.requires.range
 
 least : (c : goal.After-search) → IsLeast (StandsInWay c.args.self.now.held c.args.txn c.args.lock.now) c.search.result
-least c =
-    let now = c.args.self.now in
-    let indexed : IsIndexed now.held c.in-Some.index = subst (IsKept now.held) c.in-Some.is c.requires.kept in
-    places_searched now.held c.in-Some.index c.args.txn c.args.lock.now indexed c.low.result.now c.ranges_to.result
-    c.keys_to.result c.first_at.result
-    c.search-of_ranges.result c.search.result c.ranges_to.ensures c.first_at.ensures c.low.ensures c.keys_to.ensures
-    c.search-of_ranges.ensures c.search.ensures
+least c = grind (arith, places_searched)
 
 pub returns-clause-free : goal.returns-clause-free
 returns-clause-free c = free_where_none c.args.self.now.held c.args.txn c.args.lock.now c.search.result (least c)

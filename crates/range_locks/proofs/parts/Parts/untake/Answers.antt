@@ -1,4 +1,4 @@
-use Rattle.std.proofs.Common.{false, refl, sym, ◌∙◌, subst}
+use Rattle.std.proofs.Common.{arith, false, refl, sym, ◌∙◌, subst}
 use Rattle.range_locks.specs.declared.entry.Entry.{Entry}
 use Rattle.range_locks.specs.Index.{IsKept}
 use Rattle.range_locks.proofs.Derived.{changed}
@@ -14,7 +14,4 @@ returns-then-not-has-clause-kept c =
     (changed false c.in-Some.index c.remove.new.self e e c.remove.ensures.updates.0 refl)
 
 pub returns-else-not-has-clause-kept : goal.returns-else-not-has-clause-kept
-returns-else-not-has-clause-kept c =
-    kept_index c.args.self.now.held c.pop-lock.new.self c.args.txn c.in-Some.index c.in-Some.index
-    (subst (IsKept c.args.self.now.held) c.in-Some.is c.requires.kept) c.pop-lock.result c.ranges.txn.fits
-    c.pop-lock.ensures.was c.pop-lock.ensures.others (sym c.has.ensures ∙ c.if-not-has.false)
+returns-else-not-has-clause-kept c = grind (arith, kept_index)

@@ -6,5 +6,5 @@ use Rattle.stable.proofs.mem_pages.MemPagesPageDevice.TheImpl.Goals as goal
 
 pub read-meets : goal.read-meets
 read-meets g c =
-    reading_meets g.world.𝓤 _ _ _ _ _ _ _ _ (λ r e. rests_weaker g.world.𝓛 the_row c.args.self _ _ (λ device is.
+    reading_meets g.world.𝓤 _ _ _ _ _ _ _ _ _ (λ r e. rests_weaker g.world.𝓛 the_row c.args.self _ _ (λ device is.
     (ap (λ d. d.pages) is, ap (λ d. d.usage) is)))
