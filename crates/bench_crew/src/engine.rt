@@ -10,6 +10,7 @@ use crate::player::Player;
 use crate::quiet::Quiet;
 use file_devices::{FileLog, NoPages, open_store};
 use node_store::open;
+use node_store::world::bring_up;
 use record_key::Refusal;
 use stable::{CrashLog, CrashPages};
 use std::alloc::Global;
@@ -20,7 +21,6 @@ use std::thread::Threads;
 use std::time::{Clock, Duration, Instant};
 use std::{io, thread};
 use worker_pool::{Engine, Naming, Opened, Session};
-use world::bring_up;
 
 /// How many threads serve the clients' requests.
 const WORKERS: usize = 4;

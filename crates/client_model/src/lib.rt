@@ -21,3 +21,6 @@ pub use lines::Lines;
 pub use model::{Model, Service};
 pub use open::{Doing, Open};
 pub use span::Span;
+
+// What a crate above names of those below.
+pub use node_laws;

@@ -4,10 +4,10 @@ use crate::open::Doing;
 use crate::span::Span;
 use codec::Rows;
 use node_laws::Out;
+use node_laws::tc_core::Committed;
 use record_key::{Answer, Key, Refusal, Value};
 use std::alloc::{AllocError, Global};
 use std::mem;
-use tc_core::Committed;
 
 impl Model {
     /// Where an output tells something, what it has to tell; nothing, where nobody waits for it.

@@ -6,3 +6,5 @@ pub mod Shows
 pub mod Seen
 pub mod Restarting
 pub mod Performing
+-- what a crate above names of those below
+pub use Rattle.system_txn as system_txn

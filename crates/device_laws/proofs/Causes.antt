@@ -8,19 +8,19 @@ use Rattle.record_key.specs.FirstCause.{first_of, or_else, RefusesAs}
 use Rattle.stable.specs.Usage.{Usage, is_due, is_next, called, called_often}
 use Rattle.logical_log.specs.LogView.{is_spent, spent_refusal}
 use Rattle.range_locks.specs.declared.span.Span.{Span}
-use Rattle.tc_core.specs.TcView.{TcView, is_unconnected, is_running, is_serving, is_rolling, is_waiting}
-use Rattle.tc_core.specs.OpenTxns.{find}
-use Rattle.tc_core.specs.Causes.{is_full, saves_of, has_savepoint, undo_logs, running_refusal, serving_refusal, open_refusal, idle_refusal, begin_refusal, commit_refusal, save_refusal, back_refusal, read_refusal, reads_spent, answered_refusal, undo_refusal, resend_refusal}
-use Rattle.tc_core.specs.Recovery.{recover_refusal, undo_logs_at}
-use Rattle.tc_core.specs.Replies.{reply_refusal, is_stale, logs}
+use Rattle.node_laws.specs.tc_core.specs.TcView.{TcView, is_unconnected, is_running, is_serving, is_rolling, is_waiting}
+use Rattle.node_laws.specs.tc_core.specs.OpenTxns.{find}
+use Rattle.node_laws.specs.tc_core.specs.Causes.{is_full, saves_of, has_savepoint, undo_logs, running_refusal, serving_refusal, open_refusal, idle_refusal, begin_refusal, commit_refusal, save_refusal, back_refusal, read_refusal, reads_spent, answered_refusal, undo_refusal, resend_refusal}
+use Rattle.node_laws.specs.tc_core.specs.Recovery.{recover_refusal, undo_logs_at}
+use Rattle.node_laws.specs.tc_core.specs.Replies.{reply_refusal, is_stale, logs}
 use Rattle.codec.specs.declared.reply.Reply.{Reply}
 use Rattle.codec.specs.Replies.{session_of}
 use Rattle.record_key.specs.Order.{ends_above}
 use Rattle.codec.specs.declared.request.Request.{Request}
 use Rattle.codec.specs.declared.request.Request.TheVariants as asks
-use Rattle.dc_core.specs.DcView.{DcView}
-use Rattle.dc_core.specs.Serves.{runs, session_refusal, after_redo_refusal, serve_refusal}
-use Rattle.system_txn.specs.Gives.{is_spent as is_full_log}
+use Rattle.node_laws.specs.dc_core.specs.DcView.{DcView}
+use Rattle.node_laws.specs.dc_core.specs.Serves.{runs, session_refusal, after_redo_refusal, serve_refusal}
+use Rattle.node_laws.specs.system_txn.specs.Gives.{is_spent as is_full_log}
 use Rattle.node_laws.specs.Node.{LacksRoom}
 use Rattle.device_laws.specs.Sound.{IsSound}
 

@@ -13,17 +13,17 @@ use Rattle.btree.specs.Leaves.{leaf_at, place_at}
 use Rattle.codec.specs.declared.request.Request.{Request}
 use Rattle.codec.specs.declared.request.Request.TheVariants as asks
 use Rattle.codec.specs.declared.reply.Reply.{Reply}
-use Rattle.system_txn.specs.SystemView.{SystemView}
-use Rattle.system_txn.specs.Uses.{FailsWhenDue, StopsWithin, StopsOpening, page_calls}
+use Rattle.node_laws.specs.system_txn.specs.SystemView.{SystemView}
+use Rattle.node_laws.specs.system_txn.specs.Uses.{FailsWhenDue, StopsWithin, StopsOpening, page_calls}
 use Rattle.framed_log.specs.Refused.{refused_use}
-use Rattle.system_txn.specs.Changes.{split_to, merged_to, covered, written_to, written_all, lowered, taken_back, accepted, forced}
-use Rattle.system_txn.specs.Gives.{Splits, Merges, StopsAppend, SplitGives, MergeGives, TendGives, FlushGives, StopsWriting, CheckpointGives, StopsCheckpoint, AcceptGives, Tending, SplitsAt, MergesAt, Rests, tending, TendsTo, StopsTending, FailsWriting, FailsAmong, append_refusal, make_refusal}
-use Rattle.system_txn.specs.declared.tended.Neighbours.{Neighbours}
-use Rattle.system_txn.specs.declared.tended.Tended.{Tended}
-use Rattle.system_txn.specs.declared.tended.Tended.TheVariants as tended
-use Rattle.dc_core.specs.DcView.{DcView, captures_at}
-use Rattle.dc_core.specs.Serves.{runs, connected, knows, performs, Serves, Stops, StopsUnless, ServeGives, serve_refusal}
-use Rattle.dc_core.specs.Tends.{may_merge, IsNotNow, SplitsTo, MergesTo, TendsTo as TendsDcTo, FlushesTo}
+use Rattle.node_laws.specs.system_txn.specs.Changes.{split_to, merged_to, covered, written_to, written_all, lowered, taken_back, accepted, forced}
+use Rattle.node_laws.specs.system_txn.specs.Gives.{Splits, Merges, StopsAppend, SplitGives, MergeGives, TendGives, FlushGives, StopsWriting, CheckpointGives, StopsCheckpoint, AcceptGives, Tending, SplitsAt, MergesAt, Rests, tending, TendsTo, StopsTending, FailsWriting, FailsAmong, append_refusal, make_refusal}
+use Rattle.node_laws.specs.system_txn.specs.declared.tended.Neighbours.{Neighbours}
+use Rattle.node_laws.specs.system_txn.specs.declared.tended.Tended.{Tended}
+use Rattle.node_laws.specs.system_txn.specs.declared.tended.Tended.TheVariants as tended
+use Rattle.node_laws.specs.dc_core.specs.DcView.{DcView, captures_at}
+use Rattle.node_laws.specs.dc_core.specs.Serves.{runs, connected, knows, performs, Serves, Stops, StopsUnless, ServeGives, serve_refusal}
+use Rattle.node_laws.specs.dc_core.specs.Tends.{may_merge, IsNotNow, SplitsTo, MergesTo, TendsTo as TendsDcTo, FlushesTo}
 use Rattle.node_laws.specs.Component.{IsDownWith, IsUp}
 use Rattle.device_laws.specs.Sound.{IsSound}
 use Rattle.device_laws.proofs.Causes.{sound_called, sound_often, not_due, is_device, other_if, IsOther, serve_other}

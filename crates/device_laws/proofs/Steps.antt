@@ -11,22 +11,22 @@ use Rattle.range_locks.specs.declared.span.Span.{Span}
 use Rattle.range_locks.specs.declared.span.Span.TheVariants.{Key, Range}
 use Rattle.logical_log.specs.LogView.{spent_refusal}
 use Rattle.range_locks.specs.Meant.{range_of}
-use Rattle.tc_core.specs.declared.told.Told.{Told}
-use Rattle.tc_core.specs.declared.told.Told.TheVariants as told
-use Rattle.tc_core.specs.declared.told.UndoStep.{UndoStep}
-use Rattle.tc_core.specs.declared.told.UndoStep.TheVariants as undo
-use Rattle.tc_core.specs.OpenTxns.{find}
-use Rattle.tc_core.specs.TcView.{TcView}
-use Rattle.tc_core.specs.Causes.{idle_refusal, begin_refusal, commit_refusal, save_refusal, back_refusal, read_refusal, reads_spent, undo_refusal, undo_logs, resend_refusal, running_refusal}
-use Rattle.tc_core.specs.Changes.{begun, acted, asked_read, shared, committed, forced, reconnected, announced}
-use Rattle.tc_core.specs.Calls.{UndoGives}
-use Rattle.tc_core.specs.Recovery.{recover_refusal, undo_logs_at}
-use Rattle.tc_core.specs.LowWater.{RefusesLow, Announces}
-use Rattle.tc_core.specs.Replies.{reply_refusal, logs, on_reply}
+use Rattle.node_laws.specs.tc_core.specs.declared.told.Told.{Told}
+use Rattle.node_laws.specs.tc_core.specs.declared.told.Told.TheVariants as told
+use Rattle.node_laws.specs.tc_core.specs.declared.told.UndoStep.{UndoStep}
+use Rattle.node_laws.specs.tc_core.specs.declared.told.UndoStep.TheVariants as undo
+use Rattle.node_laws.specs.tc_core.specs.OpenTxns.{find}
+use Rattle.node_laws.specs.tc_core.specs.TcView.{TcView}
+use Rattle.node_laws.specs.tc_core.specs.Causes.{idle_refusal, begin_refusal, commit_refusal, save_refusal, back_refusal, read_refusal, reads_spent, undo_refusal, undo_logs, resend_refusal, running_refusal}
+use Rattle.node_laws.specs.tc_core.specs.Changes.{begun, acted, asked_read, shared, committed, forced, reconnected, announced}
+use Rattle.node_laws.specs.tc_core.specs.Calls.{UndoGives}
+use Rattle.node_laws.specs.tc_core.specs.Recovery.{recover_refusal, undo_logs_at}
+use Rattle.node_laws.specs.tc_core.specs.LowWater.{RefusesLow, Announces}
+use Rattle.node_laws.specs.tc_core.specs.Replies.{reply_refusal, logs, on_reply}
 use Rattle.history.specs.Spans.{changed_span}
-use Rattle.dc_core.specs.DcView.{DcView}
-use Rattle.dc_core.specs.Serves.{serve_refusal}
-use Rattle.system_txn.specs.declared.tended.Tended.TheVariants as tended
+use Rattle.node_laws.specs.dc_core.specs.DcView.{DcView}
+use Rattle.node_laws.specs.dc_core.specs.Serves.{serve_refusal}
+use Rattle.node_laws.specs.system_txn.specs.declared.tended.Tended.TheVariants as tended
 use Rattle.node_laws.specs.declared.event.Event.{Event}
 use Rattle.node_laws.specs.declared.event.Event.TheVariants as event
 use Rattle.node_laws.specs.declared.event.Out.{Out}

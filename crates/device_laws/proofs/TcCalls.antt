@@ -12,20 +12,20 @@ use Rattle.history.specs.Spans.{Span as Keys}
 use Rattle.codec.specs.declared.request.Request.{Request}
 use Rattle.codec.specs.declared.reply.Reply.{Reply}
 use Rattle.codec.specs.declared.reply.Reply.TheVariants as says
-use Rattle.tc_core.specs.declared.open_txn.OpenTxn.{OpenTxn}
-use Rattle.tc_core.specs.declared.open_txn.Rollback.{Rollback}
-use Rattle.tc_core.specs.declared.phase.Phase.{Phase}
-use Rattle.tc_core.specs.declared.phase.Phase.TheVariants as phase
-use Rattle.tc_core.specs.declared.told.UndoStep.{UndoStep}
-use Rattle.tc_core.specs.declared.told.UndoStep.TheVariants as undo
-use Rattle.tc_core.specs.TcView.{TcView}
-use Rattle.tc_core.specs.Refusing.{Refuses}
-use Rattle.tc_core.specs.Causes.{RefusesTaking}
-use Rattle.tc_core.specs.Changes.{logged_session}
-use Rattle.tc_core.specs.Calls.{ReconnectGives, Undoes}
-use Rattle.tc_core.specs.Recovery.{SendsAt}
-use Rattle.tc_core.specs.Replies.{Outcome, on_reply, on_awaited, on_lost, on_connected, on_redo_ended, on_row, on_rows, takes, lacks, awaiting, is_number, is_key, is_range, span_read, reader}
-use Rattle.tc_core.specs.Opened.{UsedByOpening}
+use Rattle.node_laws.specs.tc_core.specs.declared.open_txn.OpenTxn.{OpenTxn}
+use Rattle.node_laws.specs.tc_core.specs.declared.open_txn.Rollback.{Rollback}
+use Rattle.node_laws.specs.tc_core.specs.declared.phase.Phase.{Phase}
+use Rattle.node_laws.specs.tc_core.specs.declared.phase.Phase.TheVariants as phase
+use Rattle.node_laws.specs.tc_core.specs.declared.told.UndoStep.{UndoStep}
+use Rattle.node_laws.specs.tc_core.specs.declared.told.UndoStep.TheVariants as undo
+use Rattle.node_laws.specs.tc_core.specs.TcView.{TcView}
+use Rattle.node_laws.specs.tc_core.specs.Refusing.{Refuses}
+use Rattle.node_laws.specs.tc_core.specs.Causes.{RefusesTaking}
+use Rattle.node_laws.specs.tc_core.specs.Changes.{logged_session}
+use Rattle.node_laws.specs.tc_core.specs.Calls.{ReconnectGives, Undoes}
+use Rattle.node_laws.specs.tc_core.specs.Recovery.{SendsAt}
+use Rattle.node_laws.specs.tc_core.specs.Replies.{Outcome, on_reply, on_awaited, on_lost, on_connected, on_redo_ended, on_row, on_rows, takes, lacks, awaiting, is_number, is_key, is_range, span_read, reader}
+use Rattle.node_laws.specs.tc_core.specs.Opened.{UsedByOpening}
 use Rattle.node_laws.specs.Component.{LacksDevice}
 use Rattle.device_laws.specs.Sound.{IsSound}
 use Rattle.device_laws.proofs.Causes.{sound_called, sound_often, not_due, is_device, IsOther, spent_other}

@@ -9,11 +9,11 @@ use Rattle.stable.specs.Usage.{Usage, called_often, failing_in}
 use Rattle.stable.specs.PagesState.{Pages}
 use Rattle.framed_log.specs.Beginning.{beginning}
 use Rattle.logical_log.specs.Spelled as records
-use Rattle.system_txn.specs.declared.devices.Device.{Device}
-use Rattle.system_txn.specs.SystemView.{with_usage, failing_at}
-use Rattle.system_txn.specs.Uses.{StopsOpening, page_calls}
-use Rattle.system_txn.specs.Devices.{spelled}
-use Rattle.system_txn.specs.Crashed.{found, crashed}
+use Rattle.dc_core.specs.system_txn.specs.declared.devices.Device.{Device}
+use Rattle.dc_core.specs.system_txn.specs.SystemView.{with_usage, failing_at}
+use Rattle.dc_core.specs.system_txn.specs.Uses.{StopsOpening, page_calls}
+use Rattle.dc_core.specs.system_txn.specs.Devices.{spelled}
+use Rattle.dc_core.specs.system_txn.specs.Crashed.{found, crashed}
 use Rattle.dc_core.specs.DcView.{DcView, leaves}
 use Rattle.dc_core.specs.Restarting.{restarted}
 use Rattle.dc_core.specs.Serves.{with_system}

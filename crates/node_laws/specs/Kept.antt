@@ -22,10 +22,10 @@ use Rattle.page.specs.Leaf.{LeafView}
 use Rattle.page.specs.Honest.{IsHonestLeaf}
 use Rattle.recovery_laws.specs.Recovery.{stored_session}
 use Rattle.recovery_laws.specs.Ready.{IsHonestTo, AllHave}
-use Rattle.system_txn.specs.SystemView.{SystemView}
-use Rattle.system_txn.specs.Devices.{pages_of}
-use Rattle.system_txn.specs.Kept.{IsRecoverable}
-use Rattle.system_txn.specs.Checked.{IsChecked}
+use Rattle.dc_core.specs.system_txn.specs.SystemView.{SystemView}
+use Rattle.dc_core.specs.system_txn.specs.Devices.{pages_of}
+use Rattle.dc_core.specs.system_txn.specs.Kept.{IsRecoverable}
+use Rattle.dc_core.specs.system_txn.specs.Checked.{IsChecked}
 use Rattle.dc_core.specs.declared.performance.Performance.{Performance}
 use Rattle.dc_core.specs.DcView.{DcView, captures_at, fresh_dc}
 use Rattle.dc_core.specs.Serves.{runs}

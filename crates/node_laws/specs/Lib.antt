@@ -11,3 +11,7 @@ pub mod Fallen
 pub mod Promises
 pub mod Halves
 pub mod Forgetting
+-- what a crate above names of those below
+pub use Rattle.dc_core as dc_core
+pub use Rattle.dc_core.specs.system_txn as system_txn
+pub use Rattle.tc_core as tc_core

@@ -18,8 +18,8 @@ use Rattle.stable.specs.Usage.{unused}
 use Rattle.dc_core.specs.DcView.{DcView, fresh_dc}
 use Rattle.dc_core.specs.Serves.{ServeGives, serve_refusal}
 use Rattle.dc_core.specs.Tends.{SplitsTo, MergesTo, TendsTo, FlushesTo}
-use Rattle.system_txn.specs.declared.devices.Device.{Device}
-use Rattle.system_txn.specs.declared.tended.Tended.TheVariants as tended
+use Rattle.dc_core.specs.system_txn.specs.declared.devices.Device.{Device}
+use Rattle.dc_core.specs.system_txn.specs.declared.tended.Tended.TheVariants as tended
 use Rattle.tc_core.specs.declared.told.Told.{Told}
 use Rattle.tc_core.specs.declared.told.Told.TheVariants as told
 use Rattle.tc_core.specs.declared.told.UndoStep.TheVariants as undo

@@ -16,8 +16,8 @@ use Rattle.page.specs.Honest.{IsHonestLeaf}
 use Rattle.page.specs.TakingBack.{taken_back}
 use Rattle.btree.specs.Leaves.{rows_of}
 use Rattle.recovery_laws.specs.Ready.{IsHonestTo, AllHave}
-use Rattle.system_txn.specs.Crashed.{crashed}
-use Rattle.system_txn.specs.Devices.{pages_of}
+use Rattle.dc_core.specs.system_txn.specs.Crashed.{crashed}
+use Rattle.dc_core.specs.system_txn.specs.Devices.{pages_of}
 use Rattle.dc_core.specs.DcView.{leaves}
 use Rattle.simulation.specs.Lasting.{HasCommitted}
 use Rattle.simulation.specs.View.{IsCommitAt, standing}

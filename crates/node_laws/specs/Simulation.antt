@@ -11,7 +11,7 @@ use Rattle.tc_core.specs.declared.open_txn.OpenTxn.{OpenTxn}
 use Rattle.tc_core.specs.declared.open_txn.Read.{Read}
 use Rattle.tc_core.specs.declared.open_txn.Rollback.{Rollback}
 use Rattle.tc_core.specs.declared.phase.Phase.TheVariants as phase
-use Rattle.restart.specs.Losers.{txns}
+use Rattle.tc_core.specs.restart.specs.Losers.{txns}
 use Rattle.tc_core.specs.OpenTxns.{find}
 use Rattle.tc_core.specs.Locking.{is_listed}
 use Rattle.tc_core.specs.Causes.{saves_of}

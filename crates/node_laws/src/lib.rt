@@ -15,3 +15,7 @@ mod round;
 pub use event::{Event, Out};
 pub use laws::{fallen_law, forgetting_law};
 pub use round::Round;
+
+// What a crate above names of those below.
+pub use dc_core;
+pub use tc_core;

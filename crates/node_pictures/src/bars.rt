@@ -1,10 +1,10 @@
 //! Crashes and restarts, as bars over the whole height.
 use crate::shapes::put_box;
 use crate::sheet::{At, HEAD, Sheet};
-use node_story::{Doing, Story};
 use node_texts::Text;
+use node_texts::node_story::{Doing, Story};
+use node_texts::world::Out;
 use std::io;
-use world::Out;
 
 pub fn draw_bars<W: io::Write>(text: &mut Text<'_, W>, story: &Story<'_>, sheet: Sheet) {
     for (at, step) in story.steps.as_slice().iter().enumerate() {

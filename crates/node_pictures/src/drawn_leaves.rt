@@ -2,8 +2,8 @@
 use crate::labels::{begin_label, end_label, put_clipped, put_numbered};
 use crate::shapes::{put_box, put_circle, put_cross, put_line};
 use crate::sheet::{At, LEAF, NAME, Sheet};
-use node_story::{Birth, Change, Story, What};
 use node_texts::Text;
+use node_texts::node_story::{Birth, Change, Story, What};
 use std::io;
 
 pub fn draw_leaves<W: io::Write>(text: &mut Text<'_, W>, story: &Story<'_>, sheet: Sheet) {

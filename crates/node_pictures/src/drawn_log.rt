@@ -3,10 +3,10 @@ use crate::labels::{put_label, put_numbered};
 use crate::shapes::{put_arc, put_box, put_line};
 use crate::sheet::{ARCS, At, BOX, NAME, Sheet};
 use history::Record;
-use node_story::{Logged, Story, txn_of};
 use node_texts::Text;
+use node_texts::node_story::{Logged, Story, txn_of};
+use node_texts::world::Out;
 use std::io;
-use world::Out;
 
 pub fn draw_log<W: io::Write>(text: &mut Text<'_, W>, story: &Story<'_>, sheet: Sheet) {
     let name = At {

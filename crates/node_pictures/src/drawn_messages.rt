@@ -2,8 +2,8 @@
 use crate::labels::{put_label, put_numbered};
 use crate::shapes::{put_cross, put_line};
 use crate::sheet::{At, NAME, Sheet};
-use node_story::{Delivery, Fate, Message, Story};
 use node_texts::Text;
+use node_texts::node_story::{Delivery, Fate, Message, Story};
 use std::io;
 
 pub fn draw_messages<W: io::Write>(text: &mut Text<'_, W>, story: &Story<'_>, sheet: Sheet) {

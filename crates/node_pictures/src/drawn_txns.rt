@@ -3,10 +3,10 @@ use crate::labels::{begin_label, end_label, put_clipped};
 use crate::lane_steps::draw_step;
 use crate::shapes::{put_circle, put_cross, put_line};
 use crate::sheet::{At, HEAD, NAME, Sheet, TXN, has_lane};
-use node_story::{Actor, State, Story};
 use node_texts::Text;
+use node_texts::node_story::{Actor, State, Story};
+use node_texts::world::Out;
 use std::io;
-use world::Out;
 
 pub fn draw_txns<W: io::Write>(text: &mut Text<'_, W>, story: &Story<'_>, sheet: Sheet) {
     let mut y = HEAD + TXN / 2;

@@ -1,10 +1,10 @@
 //! What each step is, upright above its column.
 use crate::labels::{begin_label, begin_upright, end_label, put_clipped, put_numbered};
 use crate::sheet::{At, HEAD, Sheet};
-use node_story::{Step, Story};
+use node_texts::node_story::{Step, Story};
+use node_texts::world::Out;
 use node_texts::{Text, put_round};
 use std::io;
-use world::Out;
 
 /// How many letters of a line are shown.
 const LETTERS: usize = 24;

@@ -3,10 +3,10 @@ use crate::labels::put_numbered;
 use crate::shapes::{put_box, put_circle, put_line};
 use crate::sheet::{At, Sheet};
 use history::Record;
-use node_story::{Actor, Logged, Step, txn_of};
 use node_texts::Text;
+use node_texts::node_story::{Actor, Logged, Step, txn_of};
+use node_texts::world::Out;
 use std::io;
-use world::Out;
 
 /// What a step does in the lane of a transaction.
 pub fn draw_step<W: io::Write>(

@@ -1,5 +1,5 @@
 //! Where the parts of a picture stand, in pixels. Time runs from left to right, a column for each step.
-use node_story::{Actor, Birth, Story};
+use node_texts::node_story::{Actor, Birth, Story};
 
 /// Where the first column begins.
 pub const LEFT: u64 = 112;

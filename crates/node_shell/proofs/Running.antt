@@ -4,7 +4,7 @@ use Rattle.std.specs.Prelude.{◌&&◌}
 use Rattle.std.specs.Io.KnownBytes.{Appends}
 use Rattle.record_key.specs.declared.refusal.Refusal.{Refusal}
 use Rattle.record_key.specs.declared.refusal.Refusal.TheVariants as refusal
-use Rattle.node_laws.specs.Node.{NodeView, fresh_node}
+use Rattle.world.specs.node_laws.specs.Node.{NodeView, fresh_node}
 use Rattle.node_shell.specs.declared.line_result.LineResult.{LineResult}
 use Rattle.node_shell.specs.Labels.{AreSameBindings, Bindings, unbound}
 use Rattle.node_shell.specs.Script.{Command, onto, first_fault, commands_of, lines_from}

@@ -2,18 +2,18 @@
 use Rattle.std.proofs.Common.{◌≡◌, ℕ, Bool, true, false, List, [], ◌++◌, Option, Some, None, Result, Ok, Err, refl, sym, ap, ◌∙◌, subst}
 use Rattle.record_key.specs.declared.refusal.Refusal.{Refusal}
 use Rattle.history.specs.ListMachine.{Machine, Line, Steps, fresh}
-use Rattle.node_laws.specs.declared.event.Event.{Event}
-use Rattle.node_laws.specs.declared.event.Event.TheVariants as event
-use Rattle.node_laws.specs.declared.event.Out.{Out}
-use Rattle.node_laws.specs.declared.event.Out.TheVariants as out
-use Rattle.node_laws.specs.Node.{NodeView, StepsTo, fresh_node}
-use Rattle.node_laws.specs.Kept.{IsKept}
-use Rattle.node_laws.specs.Simulation.{NodeStandsFor, StepsIf}
-use Rattle.node_laws.specs.Simulation as sim
-use Rattle.node_laws.specs.Stepping.{IsStep, TellsOn, told_by_all}
-use Rattle.node_laws.specs.Rounds.{Settles}
-use Rattle.node_laws.proofs.Settles.Telling.{steps_then}
-use Rattle.node_laws.proofs.Machine.Headline.{follows, fresh_stands_for}
+use Rattle.world.specs.node_laws.specs.declared.event.Event.{Event}
+use Rattle.world.specs.node_laws.specs.declared.event.Event.TheVariants as event
+use Rattle.world.specs.node_laws.specs.declared.event.Out.{Out}
+use Rattle.world.specs.node_laws.specs.declared.event.Out.TheVariants as out
+use Rattle.world.specs.node_laws.specs.Node.{NodeView, StepsTo, fresh_node}
+use Rattle.world.specs.node_laws.specs.Kept.{IsKept}
+use Rattle.world.specs.node_laws.specs.Simulation.{NodeStandsFor, StepsIf}
+use Rattle.world.specs.node_laws.specs.Simulation as sim
+use Rattle.world.specs.node_laws.specs.Stepping.{IsStep, TellsOn, told_by_all}
+use Rattle.world.specs.node_laws.specs.Rounds.{Settles}
+use Rattle.world.specs.node_laws.proofs.Settles.Telling.{steps_then}
+use Rattle.world.specs.node_laws.proofs.Machine.Headline.{follows, fresh_stands_for}
 use Rattle.node_shell.specs.declared.line_result.LineResult.{LineResult}
 use Rattle.node_shell.specs.declared.line_result.LineResult.TheVariants as came
 use Rattle.node_shell.specs.Labels.{Bindings}

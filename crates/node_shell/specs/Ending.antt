@@ -2,7 +2,7 @@
 use Rattle.std.specs.Prelude.{ℕ, Bool, true, false, List, ◌++◌, Result, Ok, Err, codes, flat_map}
 use Rattle.record_key.specs.declared.refusal.Refusal.{Refusal}
 use Rattle.record_key.specs.declared.refusal.Refusal.TheVariants as refusal
-use Rattle.node_laws.specs.declared.event.Out.{Out}
+use Rattle.world.specs.node_laws.specs.declared.event.Out.{Out}
 use Rattle.node_shell.specs.Printed.{refusal_line}
 use Rattle.node_shell.specs.Told.{told_text}
 

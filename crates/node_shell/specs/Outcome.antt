@@ -1,9 +1,9 @@
 -- The exact bytes of what an event came to.
 use Rattle.std.specs.Prelude.{ℕ, List, [], ◌∷◌, ◌++◌, codes, decimal}
 use Rattle.std.specs.List.{concat}
-use Rattle.system_txn.specs.declared.tended.Neighbours.{Neighbours}
-use Rattle.node_laws.specs.declared.event.Out.{Out}
-use Rattle.node_laws.specs.declared.event.Out.TheVariants as out
+use Rattle.world.specs.system_txn.specs.declared.tended.Neighbours.{Neighbours}
+use Rattle.world.specs.node_laws.specs.declared.event.Out.{Out}
+use Rattle.world.specs.node_laws.specs.declared.event.Out.TheVariants as out
 use Rattle.node_shell.specs.Printed.{numbered, refusal_line}
 use Rattle.node_shell.specs.Told.{committed_text, told_text}
 

@@ -1,9 +1,9 @@
 -- The grammar of scripts, over their bytes.
 use Rattle.std.specs.Prelude.{ℕ, ◌+◌, ◌==◌, ◌&&◌, Bool, true, not, nat_le, List, [], ◌∷◌, Option, Some, None, length, codes, bytes_eq, is_none, option_map, if◌then◌else◌}
 use Rattle.std.specs.List.{slice_split}
-use Rattle.system_txn.specs.declared.devices.Device.TheVariants as of_dc
-use Rattle.node_laws.specs.declared.event.Event.{Event}
-use Rattle.node_laws.specs.declared.event.Event.TheVariants as event
+use Rattle.world.specs.system_txn.specs.declared.devices.Device.TheVariants as of_dc
+use Rattle.world.specs.node_laws.specs.declared.event.Event.{Event}
+use Rattle.world.specs.node_laws.specs.declared.event.Event.TheVariants as event
 use Rattle.node_shell.specs.declared.line.Kind.{Kind}
 use Rattle.node_shell.specs.declared.line.Kind.TheVariants as kind
 use Rattle.node_shell.specs.declared.line.Call.{Call}

@@ -7,16 +7,16 @@ use Rattle.record_key.specs.FirstCause.{first_of}
 use Rattle.record_key.specs.declared.op.Op.{Op}
 use Rattle.record_key.specs.declared.op.Op.TheVariants as op
 use Rattle.history.specs.ListMachine.{Machine, Line, Steps, IsRun}
-use Rattle.node_laws.specs.declared.event.Event.{Event}
-use Rattle.node_laws.specs.declared.event.Event.TheVariants as event
-use Rattle.node_laws.specs.declared.event.Out.{Out}
-use Rattle.node_laws.specs.declared.event.Out.TheVariants as out
-use Rattle.node_laws.specs.Node.{NodeView, fresh_node}
-use Rattle.node_laws.specs.Stepping.{IsStep, told_by_all}
-use Rattle.node_laws.specs.Simulation.{NodeStandsFor}
-use Rattle.node_laws.specs.Simulation as sim
-use Rattle.node_laws.specs.Forgetting.{without_messages}
-use Rattle.node_laws.specs.Rounds.{Settles}
+use Rattle.world.specs.node_laws.specs.declared.event.Event.{Event}
+use Rattle.world.specs.node_laws.specs.declared.event.Event.TheVariants as event
+use Rattle.world.specs.node_laws.specs.declared.event.Out.{Out}
+use Rattle.world.specs.node_laws.specs.declared.event.Out.TheVariants as out
+use Rattle.world.specs.node_laws.specs.Node.{NodeView, fresh_node}
+use Rattle.world.specs.node_laws.specs.Stepping.{IsStep, told_by_all}
+use Rattle.world.specs.node_laws.specs.Simulation.{NodeStandsFor}
+use Rattle.world.specs.node_laws.specs.Simulation as sim
+use Rattle.world.specs.node_laws.specs.Forgetting.{without_messages}
+use Rattle.world.specs.node_laws.specs.Rounds.{Settles}
 use Rattle.node_shell.specs.Labels.{Bindings, unbound, AreSameBindings, IsBound}
 use Rattle.node_shell.specs.declared.line.Kind.{Kind}
 use Rattle.node_shell.specs.declared.line.Kind.TheVariants as kind

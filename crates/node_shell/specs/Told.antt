@@ -1,8 +1,8 @@
 -- The exact bytes of what clients are told.
 use Rattle.std.specs.Prelude.{ℕ, List, [], ◌∷◌, codes, decimal, flat_map}
 use Rattle.std.specs.List.{concat}
-use Rattle.node_laws.specs.declared.event.Out.{Out}
-use Rattle.node_laws.specs.declared.event.Out.TheVariants as out
+use Rattle.world.specs.node_laws.specs.declared.event.Out.{Out}
+use Rattle.world.specs.node_laws.specs.declared.event.Out.TheVariants as out
 use Rattle.node_shell.specs.Printed.{numbered}
 use Rattle.node_shell.specs.Answers.{answered_line, value_line, found_text}
 

@@ -6,8 +6,8 @@ use Rattle.record_key.specs.Rows.{Row}
 use Rattle.history.specs.declared.record.Record.{Record}
 use Rattle.page.specs.Leaf.{LeafView}
 use Rattle.btree.specs.Leaves.{rows_of}
-use Rattle.dc_core.specs.DcView.{leaves}
-use Rattle.node_laws.specs.Node.{NodeView}
+use Rattle.world.specs.dc_core.specs.DcView.{leaves}
+use Rattle.world.specs.node_laws.specs.Node.{NodeView}
 use Rattle.node_shell.specs.declared.line.Part.{Part}
 use Rattle.node_shell.specs.declared.line.Part.TheVariants as part
 use Rattle.node_shell.specs.Logged.{log_text}

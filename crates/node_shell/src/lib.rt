@@ -44,3 +44,6 @@ pub use script_run::{DONE, FAILED, FAULT, refusal_of, refuse, run, run_on};
 pub use shell::Shell;
 pub use stopping::Stopping;
 pub use told::print_told;
+
+// What a crate above names of those below.
+pub use world;

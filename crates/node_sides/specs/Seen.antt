@@ -1,8 +1,8 @@
 -- What is seen of a component, which runs or is down.
 use Rattle.std.specs.Prelude.{true, false, Option, Some, None}
 use Rattle.stable.specs.Usage.{unused}
-use Rattle.dc_core.specs.DcView.{fresh_dc}
-use Rattle.tc_core.specs.TcView.{fresh_tc}
+use Rattle.node_laws.specs.dc_core.specs.DcView.{fresh_dc}
+use Rattle.node_laws.specs.tc_core.specs.TcView.{fresh_tc}
 use Rattle.node_laws.specs.Component.{TcSide, DcSide}
 use Rattle.node_sides.specs.declared.transaction_component.TransactionComponent.{TransactionComponent}
 use Rattle.node_sides.specs.declared.transaction_component.TransactionComponent.TheVariants as tc_is

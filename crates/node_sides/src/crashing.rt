@@ -2,9 +2,9 @@
 ghost use Rattle.std.specs.Prelude.{◌≡◌, ◌≤◌, ◌+◌, length};
 ghost use Rattle.node_laws.specs.Component.{lesser, bytes_left, tc_size, dc_size, LeavesBytes};
 
-use dc_core::Dc;
+use node_laws::dc_core::Dc;
+use node_laws::tc_core::Tc;
 use stable::{LogDevice, PageDevice};
-use tc_core::Tc;
 
 /// How many bytes of the data component's log are kept where of the records that aren't stable the first stay, so many,
 /// and of the next one so many bytes, or all of it.

@@ -1,11 +1,11 @@
 //! The data component, which runs or is down.
-ghost use Rattle.dc_core.specs.Kept.{IsDc};
-ghost use Rattle.system_txn.specs.Kept.{IsRecoverable};
+ghost use Rattle.node_laws.specs.dc_core.specs.Kept.{IsDc};
+ghost use Rattle.node_laws.specs.system_txn.specs.Kept.{IsRecoverable};
 ghost use Rattle.node_laws.specs.Component.{DcCrashesTo, DcRestartsTo};
 ghost use Rattle.node_sides.specs.Seen.{dc_of};
 
 use crate::stopped_dc::{StoppedDc, UnopenedDc};
-use dc_core::Dc;
+use node_laws::dc_core::Dc;
 use record_key::Refusal;
 use stable::{CrashLog, CrashPages};
 use std::alloc::Global;

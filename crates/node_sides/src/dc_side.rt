@@ -6,19 +6,19 @@ ghost use Rattle.std.specs.Option.{option_copied};
 ghost use Rattle.record_key.specs.Lent.{op_lent};
 ghost use Rattle.stable.specs.Usage.{unused};
 ghost use Rattle.btree.specs.Leaves.{rows_of};
-ghost use Rattle.system_txn.specs.Kept.{IsRecoverable};
+ghost use Rattle.node_laws.specs.system_txn.specs.Kept.{IsRecoverable};
 ghost use Rattle.codec.specs.Parted.{request_to};
 ghost use Rattle.codec.specs.Requests.{HasRequestNumbers};
-ghost use Rattle.dc_core.specs.DcView.{fresh_dc, leaves, value_at};
-ghost use Rattle.dc_core.specs.Kept.{IsDc};
-ghost use Rattle.dc_core.specs.Performing.{reply_if};
-ghost use Rattle.dc_core.specs.Serves.{MayAsk, after_redo_refusal};
+ghost use Rattle.node_laws.specs.dc_core.specs.DcView.{fresh_dc, leaves, value_at};
+ghost use Rattle.node_laws.specs.dc_core.specs.Kept.{IsDc};
+ghost use Rattle.node_laws.specs.dc_core.specs.Performing.{reply_if};
+ghost use Rattle.node_laws.specs.dc_core.specs.Serves.{MayAsk, after_redo_refusal};
 ghost use Rattle.node_laws.specs.Halves.{of_tc, moves, MayDc, DcLeads, DcGives, DcCalls, DcServes};
 
 use crate::data_component::DataComponent;
 use crate::put::put;
 use codec::{Asking, Reply, Request};
-use dc_core::Dc;
+use node_laws::dc_core::Dc;
 use node_laws::{Event, Out};
 use page::AnswerSink;
 use record_key::{Key, OpRef, Refusal, Value, ValueRef};
@@ -37,7 +37,7 @@ pub struct DcSide<D: CrashLog = MemLog, P: CrashPages = MemPages> {
 impl<D: CrashLog, P: CrashPages> Model for DcSide<D, P> {
     ghost use Rattle.std.specs.Coded.{codes};
     ghost use Rattle.record_key.specs.Table.{table_code};
-    ghost use Rattle.system_txn.specs.SystemView.{pages_code};
+    ghost use Rattle.node_laws.specs.system_txn.specs.SystemView.{pages_code};
     ghost use Rattle.node_laws.specs.Component as sides;
 
     ghost Value = { sides.DcSide };
@@ -45,7 +45,7 @@ impl<D: CrashLog, P: CrashPages> Model for DcSide<D, P> {
     ghost coded = { Prim.hlevel (codes, table_code, pages_code) };
 
     ghost use Rattle.std.specs.Prelude.{IsSome};
-    ghost use Rattle.dc_core.specs.Kept.{IsDc};
+    ghost use Rattle.node_laws.specs.dc_core.specs.Kept.{IsDc};
     ghost use Rattle.node_sides.specs.Seen.{dc_in};
 
     ghost view = { λ s. dc_in s.component };

@@ -23,3 +23,7 @@ mod transaction_component;
 
 pub use dc_side::DcSide;
 pub use tc_side::TcSide;
+
+// What a crate above names of those below.
+pub use node_laws;
+pub use node_laws::{dc_core, tc_core};

@@ -3,10 +3,10 @@ ghost use Rattle.std.specs.Prelude.{◌≡◌, ℕ, true, false, Some, None, IfO
 ghost use Rattle.std.specs.Option.{option_copied, option_map};
 ghost use Rattle.codec.specs.Given.{answer_given};
 ghost use Rattle.codec.specs.declared.reply.Reply.TheVariants as says;
-ghost use Rattle.tc_core.specs.Heard.{told_with};
-ghost use Rattle.tc_core.specs.Recovery.{SendsOp};
-ghost use Rattle.tc_core.specs.Replies.{is_of_another};
-ghost use Rattle.tc_core.specs.TcView.{TcView};
+ghost use Rattle.node_laws.specs.tc_core.specs.Heard.{told_with};
+ghost use Rattle.node_laws.specs.tc_core.specs.Recovery.{SendsOp};
+ghost use Rattle.node_laws.specs.tc_core.specs.Replies.{is_of_another};
+ghost use Rattle.node_laws.specs.tc_core.specs.TcView.{TcView};
 ghost use Rattle.node_laws.specs.Halves.{of_tc, moves, HasRoom, IsSpelledIf, TcGives, TcCalls, TcSends, TcTakes};
 ghost use Rattle.node_laws.specs.Node.{down_refusal, as_out, sends_at};
 ghost use Rattle.node_sides.specs.Seen.{tc_of};
@@ -14,12 +14,12 @@ ghost use Rattle.node_sides.specs.Seen.{tc_of};
 use crate::attempt::attempt;
 use crate::transaction_component::TransactionComponent;
 use codec::{GivenAnswer, Reply, Request};
+use node_laws::tc_core::{Forced, Heard, Phase, RecoverStep, Told, UndoStep};
 use node_laws::{Event, Out};
 use range_locks::Span;
 use record_key::{Key, Op, Refusal, Value};
 use stable::CrashLog;
 use std::alloc::Global;
-use tc_core::{Forced, Heard, Phase, RecoverStep, Told, UndoStep};
 
 impl<D: CrashLog> TransactionComponent<D> {
     /// One of its events that is neither a crash nor a restart; a Reply event finds no reply of its number. What is sent

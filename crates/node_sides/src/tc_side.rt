@@ -7,11 +7,11 @@ ghost use Rattle.logical_log.specs.Spelled.{spelled};
 ghost use Rattle.std.specs.Option.{option_copied, option_map};
 ghost use Rattle.codec.specs.Given.{answer_given};
 ghost use Rattle.codec.specs.declared.reply.Reply.TheVariants as says;
-ghost use Rattle.tc_core.specs.Kept.{IsTc};
-ghost use Rattle.tc_core.specs.Replies.{is_of_another};
-ghost use Rattle.tc_core.specs.LowWater.{IsGreatestAnnounced};
-ghost use Rattle.tc_core.specs.Recovery.{SendsOp};
-ghost use Rattle.tc_core.specs.TcView.{TcView, fresh_tc};
+ghost use Rattle.node_laws.specs.tc_core.specs.Kept.{IsTc};
+ghost use Rattle.node_laws.specs.tc_core.specs.Replies.{is_of_another};
+ghost use Rattle.node_laws.specs.tc_core.specs.LowWater.{IsGreatestAnnounced};
+ghost use Rattle.node_laws.specs.tc_core.specs.Recovery.{SendsOp};
+ghost use Rattle.node_laws.specs.tc_core.specs.TcView.{TcView, fresh_tc};
 ghost use Rattle.node_laws.specs.Component.{LeavesBytes};
 ghost use Rattle.node_laws.specs.Halves.{of_tc, moves, TcLeads, TcCalls, TcTakes};
 
@@ -19,12 +19,12 @@ use crate::crashing::cut_after;
 use crate::put::put;
 use crate::transaction_component::TransactionComponent;
 use codec::{GivenAnswer, Reply, Request};
+use node_laws::tc_core::{Phase, Tc};
 use node_laws::{Event, Out};
 use record_key::{Key, Op, Refusal, Value};
 use stable::{CrashLog, MemLog};
 use std::alloc::Global;
 use std::marker::Model;
-use tc_core::{Phase, Tc};
 
 /// The transaction component, which runs or is down.
 #[derive(Drop)]
@@ -40,7 +40,7 @@ impl<D: CrashLog> Model for TcSide<D> {
     ghost Value = { sides.TcSide };
 
     ghost use Rattle.std.specs.Prelude.{IsSome};
-    ghost use Rattle.tc_core.specs.Kept.{IsTc};
+    ghost use Rattle.node_laws.specs.tc_core.specs.Kept.{IsTc};
     ghost use Rattle.node_sides.specs.Seen.{tc_in};
 
     ghost view = { λ s. tc_in s.component };

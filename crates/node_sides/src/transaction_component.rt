@@ -1,13 +1,13 @@
 //! The transaction component, which runs or is down.
-ghost use Rattle.tc_core.specs.Kept.{IsTc};
+ghost use Rattle.node_laws.specs.tc_core.specs.Kept.{IsTc};
 ghost use Rattle.node_laws.specs.Component.{TcCrashesTo, TcRestartsTo};
 ghost use Rattle.node_sides.specs.Seen.{tc_of};
 
 use crate::stopped_tc::{StoppedTc, UnopenedTc};
+use node_laws::tc_core::Tc;
 use record_key::Refusal;
 use stable::CrashLog;
 use std::alloc::Global;
-use tc_core::Tc;
 
 #[derive(Drop)]
 pub enum TransactionComponent<D: CrashLog> {

@@ -5,8 +5,8 @@ use Rattle.record_key.specs.declared.refusal.Refusal.{Refusal}
 use Rattle.record_key.specs.declared.refusal.Refusal.TheVariants.{NotNow}
 use Rattle.btree.specs.Leaves.{rows_of}
 use Rattle.log_rewriting.specs.Written.{RefusesRecords, count_with}
-use Rattle.dc_core.specs.DcView.{leaves}
-use Rattle.node_laws.specs.Node.{NodeView}
+use Rattle.world.specs.dc_core.specs.DcView.{leaves}
+use Rattle.world.specs.node_laws.specs.Node.{NodeView}
 use Rattle.world.specs.Quiet.{IsQuiet}
 
 -- something is left to do in it, or somebody is open; or none of this, and its rows aren't written or opened

@@ -15,3 +15,6 @@ mod unopened;
 pub use opening::open;
 pub use renewal::renew;
 pub use unopened::{Cause, Unopened};
+
+// What a crate above names of those below.
+pub use world;

@@ -7,10 +7,10 @@ ghost use Rattle.history.specs.ListMachine.{Machine, is_live};
 ghost use Rattle.log_rewriting.specs.Written.{written, RefusesRecords, count_with};
 ghost use Rattle.logical_log.specs.Opening.{IsLogOf};
 ghost use Rattle.btree.specs.Leaves.{rows_of};
-ghost use Rattle.dc_core.specs.DcView.{fresh_dc, leaves};
+ghost use Rattle.world.specs.dc_core.specs.DcView.{fresh_dc, leaves};
 ghost use Rattle.simulation.specs.Reading.{machine_read, txn_read};
-ghost use Rattle.node_laws.specs.Node.{joined};
-ghost use Rattle.node_laws.specs.Simulation.{NodeStandsFor};
+ghost use Rattle.world.specs.node_laws.specs.Node.{joined};
+ghost use Rattle.world.specs.node_laws.specs.Simulation.{NodeStandsFor};
 ghost use Rattle.world.specs.Quiet.{IsQuiet};
 ghost use Rattle.node_store.specs.Renewal.{RefusesRenewal};
 

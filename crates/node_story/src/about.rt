@@ -1,7 +1,7 @@
 //! What a line or an event is.
 use crate::step::Doing;
+use node_shell::world::Event;
 use node_shell::{Call, Line, Shell};
-use world::Event;
 
 /// What the event of a line is, and whose.
 pub fn of_line(line: &Line<'_>, shell: &Shell) -> (Doing, u64) {

@@ -6,8 +6,8 @@ use crate::logged::Logged;
 use crate::reopened::open_again;
 use crate::step::{Doing, Step};
 use crate::story::Story;
+use node_shell::world::Out;
 use record_key::Refusal;
-use world::Out;
 
 /// What a step does to the transactions.
 pub fn note_actors<'a>(

@@ -2,8 +2,8 @@
 use crate::actor::{End, Hold, Mode};
 use crate::story::Story;
 use node_shell::Line;
+use node_shell::world::Out;
 use record_key::Refusal;
-use world::Out;
 
 /// The keys that the line takes for this transaction, where it isn't refused.
 pub fn take_keys<'a>(

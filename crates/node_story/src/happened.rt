@@ -5,8 +5,8 @@ use crate::log_seen::see_log;
 use crate::messages::note_messages;
 use crate::step::{Doing, Step};
 use crate::story::Story;
+use node_shell::world::Out;
 use record_key::Refusal;
-use world::Out;
 
 /// Notes the step; a transaction that begins in it has this label.
 pub fn note<'a>(story: &mut Story<'a>, step: Step<'a>, label: &'a [u8]) -> Result<(), Refusal> {

@@ -4,9 +4,9 @@ ghost use Rattle.node_shell.specs.View.{leaves_shown};
 
 use crate::leaf::{Birth, Change, Held, Shot, What};
 use crate::story::Story;
+use node_shell::world::{Out, World};
 use page::Leaf;
 use record_key::Refusal;
-use world::{Out, World};
 
 /// What a step says itself of leaves.
 pub fn note_change(changes: &mut Vec<Change>, out: &Out, step: usize) -> Result<(), Refusal> {

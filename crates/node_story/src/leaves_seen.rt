@@ -8,9 +8,9 @@ use crate::leaf_changes::{
 };
 use crate::step::{Doing, Step};
 use crate::story::Story;
+use node_shell::world::{Out, World};
 use page::Leaf;
 use record_key::Refusal;
-use world::{Out, World};
 
 pub fn see_leaves(story: &mut Story<'_>, step: &Step<'_>, at: usize) -> Result<(), Refusal> {
     note_change(&mut story.changes, &step.out, at)?;

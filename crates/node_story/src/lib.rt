@@ -35,3 +35,7 @@ pub use moment::Moment;
 pub use playing::{play, play_line};
 pub use step::{Doing, Step};
 pub use story::{Story, begin, label_of};
+
+// What a crate above names of those below.
+pub use node_shell;
+pub use node_shell::world;

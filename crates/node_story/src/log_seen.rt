@@ -3,8 +3,8 @@ use crate::logged::Logged;
 use crate::step::{Doing, Step};
 use crate::story::Story;
 use history::Record;
+use node_shell::world::Out;
 use record_key::Refusal;
-use world::Out;
 
 pub fn see_log(story: &mut Story<'_>, step: &Step<'_>, at: usize) -> Result<(), Refusal> {
     let (Ok(records), Ok(stable)) = (story.shell.world.records(), story.shell.world.stable_end())

@@ -4,8 +4,8 @@ use crate::said::{about_of, asked_in, go_on};
 use crate::step::{Doing, Step};
 use crate::story::Story;
 use node_shell::request;
+use node_shell::world::Out;
 use record_key::Refusal;
-use world::Out;
 
 /// The message that a step sends, and the one that it delivers.
 pub fn note_messages(story: &mut Story<'_>, step: &Step<'_>, at: usize) -> Result<(), Refusal> {

@@ -7,7 +7,7 @@ use crate::messages::message_of;
 use crate::step::{Doing, Step};
 use crate::story::Story;
 use history::Record;
-use world::Out;
+use node_shell::world::Out;
 
 /// What the request says that a step sends.
 pub fn about_of(story: &Story<'_>, step: &Step<'_>) -> About {

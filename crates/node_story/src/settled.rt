@@ -3,8 +3,8 @@ use crate::about::of_event;
 use crate::happened::note;
 use crate::step::{Step, is_failure};
 use crate::story::Story;
+use node_shell::world::{Event, Out, Round};
 use record_key::Refusal;
-use world::{Event, Out, Round};
 
 /// More rounds than any script takes.
 const MOST_ROUNDS: u64 = 1 << 32;

@@ -1,7 +1,7 @@
 //! A step of a story: an event with what it came to. Steps are counted from 0.
+use node_shell::world::Out;
 use page::Leaf;
 use record_key::Refusal;
-use world::Out;
 
 /// What an event is.
 #[derive(Clone, Copy)]

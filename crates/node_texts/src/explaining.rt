@@ -6,12 +6,12 @@ use crate::told_messages::tell_messages;
 use crate::told_steps::tell_steps;
 use crate::told_txns::tell_txns;
 use crate::wrapped::put_wrapped;
-use node_shell::{DONE, FAILED, FAULT, first_fault, refusal_of, refuse};
+use node_story::node_shell::{DONE, FAILED, FAULT, first_fault, refusal_of, refuse};
+use node_story::world::Out;
 use node_story::{Story, begin, play, play_line};
 use record_key::Refusal;
 use std::alloc::Global;
 use std::io;
-use world::Out;
 
 /// Reads the script and explains each line that changes something, or just line `at`. Gives the exit status.
 pub fn explain<R: io::Read, W: io::Write>(

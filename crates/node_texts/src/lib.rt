@@ -23,3 +23,7 @@ mod wrapped;
 pub use explaining::explain;
 pub use rounds::put_round;
 pub use text::Text;
+
+// What a crate above names of those below.
+pub use node_story;
+pub use node_story::{node_shell, world};

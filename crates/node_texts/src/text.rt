@@ -1,9 +1,9 @@
 //! A text that is written bit by bit.
 use history::Record;
-use node_shell::{Piece, print, print_record, print_refusal, print_told, put};
+use node_story::node_shell::{Piece, print, print_record, print_refusal, print_told, put};
+use node_story::world::Out;
 use record_key::Refusal;
 use std::io;
-use world::Out;
 
 /// A text on its way to a writer. Once a write has failed nothing more is written, and the text's end tells that.
 #[derive(Drop)]

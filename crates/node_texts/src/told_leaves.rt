@@ -1,13 +1,13 @@
 //! The leaves, in words: the fences of each, its low number, and what it has captured beyond that.
 ghost use Rattle.std.specs.Prelude.{◌≡◌, true, length};
-ghost use Rattle.node_shell.specs.View.{leaves_shown};
+ghost use Rattle.node_story.specs.node_shell.specs.View.{leaves_shown};
 
 use crate::numbers::Numbers;
 use crate::text::Text;
 use node_story::Story;
+use node_story::world::World;
 use page::Leaf;
 use record_key::Key;
-use world::World;
 
 /// A line of each leaf as it is.
 pub fn tell_leaves(text: &mut Text<'_, Vec<u8>>, story: &Story<'_>) {

@@ -1,7 +1,7 @@
 //! What a crash has taken, in words. It shows at the restart: so it is read from the story of the whole script.
 use crate::text::Text;
+use node_story::world::Out;
 use node_story::{Change, Doing, Step, Story, What};
-use world::Out;
 
 /// The lines of what the crash in this step has taken.
 pub fn tell_losses(text: &mut Text<'_, Vec<u8>>, whole: &Story<'_>, doing: Doing, at: usize) {

@@ -1,9 +1,9 @@
 //! What a step came to, in words.
 use crate::text::Text;
 use history::Record;
-use node_shell::request;
+use node_story::node_shell::request;
+use node_story::world::Out;
 use node_story::{Doing, Step, Story, find, label_of};
-use world::Out;
 
 /// What a step came to, and the end of its line.
 pub fn tell_out(text: &mut Text<'_, Vec<u8>>, story: &Story<'_>, step: &Step<'_>) {

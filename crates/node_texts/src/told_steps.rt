@@ -5,8 +5,8 @@ use crate::told_changes::tell_changes;
 use crate::told_losses::tell_losses;
 use crate::told_messages::put_message;
 use crate::told_out::tell_out;
+use node_story::world::Out;
 use node_story::{Delivery, Fate, Step, Story, message_of};
-use world::Out;
 
 /// Lines of the steps from this one on.
 pub fn tell_steps(

@@ -1,5 +1,5 @@
 //! A client's call.
-use node_laws::Event;
+use client_model::node_laws::Event;
 use record_key::{Key, Op, Refusal};
 use test_lines::Words;
 

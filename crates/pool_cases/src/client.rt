@@ -2,8 +2,8 @@
 use crate::call::Call;
 use crate::served::Serves;
 use crate::verdict::{TRIES, Verdict};
+use client_model::node_laws::{Event, Out};
 use codec::Rows;
-use node_laws::{Event, Out};
 use record_key::{Answer, Key, Op, Refusal, Value};
 use session_answers::Told;
 use std::alloc::Global;

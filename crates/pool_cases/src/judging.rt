@@ -6,7 +6,7 @@ use crate::served::Leaves;
 use crate::told::put_rows;
 use crate::verdict::Verdict;
 use crate::{machine, parts};
-use node_laws::Out;
+use client_model::node_laws::Out;
 use std::alloc::Global;
 
 /// Whether the journal is what the plain model says, and each session's part of it what its client noted; and where the

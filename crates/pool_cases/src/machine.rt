@@ -5,10 +5,10 @@
 use crate::client::is_failure;
 use crate::served::Leaves;
 use crate::verdict::Verdict;
+use client_model::node_laws::{Event, Out};
 use client_model::{Beside, Model, Span};
-use node_laws::{Event, Out};
-use pool_journal::Step;
 use record_key::{Op, Refusal};
+use session_answers::pool_journal::Step;
 use std::alloc::{AllocError, Global};
 
 /// An operation that was logged.

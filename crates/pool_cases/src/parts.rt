@@ -1,9 +1,9 @@
 //! What each client noted, beside its session's part of the journal.
 use crate::client::{Note, is_failure, txn_of};
 use crate::served::Leaves;
-use node_laws::{Event, Out};
-use pool_journal::{Lent, Step};
+use client_model::node_laws::{Event, Out};
 use record_key::Refusal;
+use session_answers::pool_journal::{Lent, Step};
 
 /// A session's number, and what its client noted.
 #[derive(Drop)]

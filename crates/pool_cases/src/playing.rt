@@ -5,7 +5,7 @@ use crate::draws::Draws;
 use crate::plan::Plan;
 use crate::served::Serves;
 use crate::stage::Stage;
-use node_laws::Out;
+use client_model::node_laws::Out;
 use record_key::{Key, Op, Refusal, Value};
 use std::sync::Wait;
 

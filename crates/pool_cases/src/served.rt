@@ -1,9 +1,9 @@
 //! The calls of a session, and of what an engine leaves, as traits: who plays or judges is proved for whatever has these
 //! calls, and knows nothing of what a session owns.
 use codec::Rows;
-use pool_journal::Step;
 use record_key::{Answer, Key, Op, Refusal, Value};
 use session_answers::Told;
+use session_answers::pool_journal::Step;
 use std::sync::Wait;
 
 /// A client's calls.

@@ -1,6 +1,6 @@
 //! The gate of a case: one message waits there until the case goes on, or each waits a little.
 use codec::{Reply, Request};
-use pool_journal::Gate;
+use session_answers::pool_journal::Gate;
 use std::sync::Arc;
 use std::sync::atomic::{AtomicBool, AtomicU64, Ordering};
 use std::thread;

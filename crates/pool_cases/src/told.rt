@@ -1,6 +1,6 @@
 //! The text of what a client was answered.
+use client_model::node_laws::Out;
 use codec::Rows;
-use node_laws::Out;
 use record_key::{Key, Refusal, Value};
 use std::fmt::Write;
 use test_lines::{put_answer, put_refusal, put_text};

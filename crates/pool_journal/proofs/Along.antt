@@ -5,13 +5,13 @@ use Rattle.std.specs.Bool.{MatchBool}
 use Rattle.std.specs.List.{AllByRecursion}
 use Rattle.codec.specs.declared.request.Request.{Request}
 use Rattle.codec.specs.declared.reply.Reply.{Reply}
-use Rattle.node_laws.specs.declared.event.Event.{Event}
-use Rattle.node_laws.specs.declared.event.Event.TheVariants as event
-use Rattle.node_laws.specs.Halves.{node_of, also, BringsReply, BringsRequest, IsSpelledIf}
-use Rattle.node_laws.specs.Kept.{IsKept}
-use Rattle.node_laws.specs.Node.{NodeView, StepsTo}
-use Rattle.node_laws.specs.Stepping.{IsStep, Chain}
-use Rattle.node_laws.proofs.Machine.Headline.{follows}
+use Rattle.node_sides.specs.node_laws.specs.declared.event.Event.{Event}
+use Rattle.node_sides.specs.node_laws.specs.declared.event.Event.TheVariants as event
+use Rattle.node_sides.specs.node_laws.specs.Halves.{node_of, also, BringsReply, BringsRequest, IsSpelledIf}
+use Rattle.node_sides.specs.node_laws.specs.Kept.{IsKept}
+use Rattle.node_sides.specs.node_laws.specs.Node.{NodeView, StepsTo}
+use Rattle.node_sides.specs.node_laws.specs.Stepping.{IsStep, Chain}
+use Rattle.node_sides.specs.node_laws.proofs.Machine.Headline.{follows}
 use Rattle.pool_journal.specs.declared.step.Step.{Step}
 use Rattle.pool_journal.specs.Kept.{is_dc, HandsReply, HandsRequest, EntersTc, EntersDc, IsInRun}
 use Rattle.pool_journal.specs.Steps.{is_tc, events, outs, asked_after, given_after, requests, replies, TcState, DcState, count, TcStep, DcStep, TcAlong, DcAlong, GivesTc, GivesDc, RunsTo, Start, IsStart, tc_start, dc_start}

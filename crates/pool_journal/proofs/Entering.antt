@@ -8,10 +8,10 @@ use Rattle.std.proofs.lemmas.List.{append-nil, map-append}
 use Rattle.std.proofs.Common.{append_assoc}
 use Rattle.boxcar.specs.Table.{Shelves}
 use Rattle.history.specs.ListMachine.{Line}
-use Rattle.node_laws.specs.declared.event.Out.{Out}
-use Rattle.node_laws.specs.declared.event.Out.TheVariants as out
-use Rattle.node_laws.specs.Halves.{IsSpelledIf}
-use Rattle.node_laws.specs.Messages.{message_at}
+use Rattle.node_sides.specs.node_laws.specs.declared.event.Out.{Out}
+use Rattle.node_sides.specs.node_laws.specs.declared.event.Out.TheVariants as out
+use Rattle.node_sides.specs.node_laws.specs.Halves.{IsSpelledIf}
+use Rattle.node_sides.specs.node_laws.specs.Messages.{message_at}
 use Rattle.pool_journal.specs.declared.place.Place.{Place}
 use Rattle.pool_journal.specs.declared.step.Step.{Step}
 use Rattle.pool_journal.specs.Kept.{is_dc, calls_of, IsLine, PlaceKept, PlacesKept, LinesKept, place_after, place_heard, EntersTc, EntersDc, IsInRun, IsSentBy}

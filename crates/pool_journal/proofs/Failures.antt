@@ -1,7 +1,7 @@
 -- What the steps of a session's latest call failed by, one step on.
 use Rattle.std.proofs.Common.{List, [], ◌∷◌, ◌++◌, Option, Some, None, refl, ap, sym, ◌∙◌, append_assoc}
 use Rattle.std.proofs.lemmas.List.{append-nil}
-use Rattle.node_laws.specs.Halves.{also}
+use Rattle.node_sides.specs.node_laws.specs.Halves.{also}
 use Rattle.pool_journal.specs.Errands.{FailsSince}
 use Rattle.pool_journal.specs.Kept.{later_failure}
 use Rattle.pool_journal.specs.declared.failure.Failure.{Failure}

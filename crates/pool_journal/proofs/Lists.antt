@@ -8,9 +8,9 @@ use Rattle.std.proofs.lemmas.List.{append-nil, length-append}
 use Rattle.std.proofs.lemmas.List.Elements.{filter-append}
 use Rattle.codec.specs.declared.request.Request.{Request}
 use Rattle.codec.specs.declared.reply.Reply.{Reply}
-use Rattle.node_laws.specs.Halves.{also}
-use Rattle.node_laws.specs.Messages.{message_at}
-use Rattle.dc_core.proofs.Walks.{all_get}
+use Rattle.node_sides.specs.node_laws.specs.Halves.{also}
+use Rattle.node_sides.specs.node_laws.specs.Messages.{message_at}
+use Rattle.node_sides.specs.dc_core.proofs.Walks.{all_get}
 use Rattle.record_key.proofs.Kept.{all_filtered}
 use Rattle.record_key.proofs.Lists.{all_appended}
 use Rattle.pool_journal.specs.declared.step.Step.{Step}

@@ -5,12 +5,12 @@ use Rattle.std.specs.List.{AllByRecursion}
 use Rattle.atomic_table.specs.Seated.{TableId}
 use Rattle.codec.specs.declared.request.Request.{Request}
 use Rattle.marks.specs.Seen.{Seen}
-use Rattle.node_laws.specs.declared.event.Event.{Event}
-use Rattle.node_laws.specs.declared.event.Event.TheVariants as event
-use Rattle.node_laws.specs.declared.event.Out.{Out}
-use Rattle.node_laws.specs.declared.event.Out.TheVariants as out
-use Rattle.node_laws.specs.Component.{TcSide}
-use Rattle.node_laws.specs.Halves.{of_tc, TcLeads}
+use Rattle.node_sides.specs.node_laws.specs.declared.event.Event.{Event}
+use Rattle.node_sides.specs.node_laws.specs.declared.event.Event.TheVariants as event
+use Rattle.node_sides.specs.node_laws.specs.declared.event.Out.{Out}
+use Rattle.node_sides.specs.node_laws.specs.declared.event.Out.TheVariants as out
+use Rattle.node_sides.specs.node_laws.specs.Component.{TcSide}
+use Rattle.node_sides.specs.node_laws.specs.Halves.{of_tc, TcLeads}
 use Rattle.pool_journal.specs.declared.step.Step.{Step}
 use Rattle.pool_journal.specs.Desks.{SeatKept}
 use Rattle.pool_journal.specs.Marking.{low_of, announced, announced_after, IsLowOf}

@@ -4,11 +4,11 @@ use Rattle.atomic_table.specs.Seated.{TableId}
 use Rattle.codec.specs.declared.request.Request.{Request}
 use Rattle.codec.specs.declared.reply.Reply.{Reply}
 use Rattle.marks.specs.Seen.{Seen}
-use Rattle.node_laws.specs.declared.event.Event.{Event}
-use Rattle.node_laws.specs.declared.event.Event.TheVariants as event
-use Rattle.node_laws.specs.Component.{TcSide, DcSide}
-use Rattle.node_laws.specs.Halves.{TcLeads, DcLeads, BringsReply, BringsRequest, IsInNode}
-use Rattle.node_laws.specs.Messages.{message_at}
+use Rattle.node_sides.specs.node_laws.specs.declared.event.Event.{Event}
+use Rattle.node_sides.specs.node_laws.specs.declared.event.Event.TheVariants as event
+use Rattle.node_sides.specs.node_laws.specs.Component.{TcSide, DcSide}
+use Rattle.node_sides.specs.node_laws.specs.Halves.{TcLeads, DcLeads, BringsReply, BringsRequest, IsInNode}
+use Rattle.node_sides.specs.node_laws.specs.Messages.{message_at}
 use Rattle.pool_journal.specs.declared.step.Step.{Step}
 use Rattle.pool_journal.specs.Desks.{delivers, TcDeskKept, DcDeskKept}
 use Rattle.pool_journal.specs.Kept.{is_dc, HandsReply, HandsRequest, EntersTc, EntersDc, IsInRun, IsSentBy}

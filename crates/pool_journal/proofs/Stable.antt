@@ -13,28 +13,28 @@ use Rattle.codec.specs.declared.request.Request.TheVariants as asks
 use Rattle.codec.specs.declared.reply.Reply.{Reply}
 use Rattle.codec.specs.declared.reply.Reply.TheVariants as says
 use Rattle.stable.specs.Usage.{unused}
-use Rattle.dc_core.specs.DcView.{fresh_dc}
-use Rattle.tc_core.specs.declared.open_txn.OpenTxn.{OpenTxn}
-use Rattle.tc_core.specs.declared.open_txn.Rollback.{Rollback}
-use Rattle.tc_core.specs.declared.phase.Phase.{Phase}
-use Rattle.tc_core.specs.declared.phase.Phase.TheVariants as phase
-use Rattle.tc_core.specs.declared.told.UndoStep.{UndoStep}
-use Rattle.tc_core.specs.declared.told.UndoStep.TheVariants as undo
-use Rattle.tc_core.specs.TcView.{TcView, failed}
-use Rattle.tc_core.specs.Refusing.{Refuses}
-use Rattle.tc_core.specs.Causes.{RefusesTaking}
-use Rattle.tc_core.specs.Calls.{ReconnectGives, Undoes, UndoesStep}
-use Rattle.tc_core.specs.Recovery.{SendsAt}
-use Rattle.tc_core.specs.Replies.{Outcome, on_reply, on_awaited, on_lost, on_connected, on_redo_ended, on_row, on_rows, takes, awaiting, lacks, reader, is_key, is_range, is_number, span_read}
-use Rattle.tc_core.specs.Opened.{IsOpenedAgain}
-use Rattle.tc_core.specs.Kept.{IsTc}
-use Rattle.node_laws.specs.declared.event.Event.{Event}
-use Rattle.node_laws.specs.declared.event.Event.TheVariants as event
-use Rattle.node_laws.specs.declared.event.Out.{Out}
-use Rattle.node_laws.specs.declared.event.Out.TheVariants as out
-use Rattle.node_laws.specs.Component.{TcSide, DcSide, Keeps, tc_size}
-use Rattle.node_laws.specs.Node.{NodeView, ReconnectsTo, RecoversTo, BeginsTo, ActsTo, ReadsTo, SavesTo, GoesBackTo, RollsBackTo, CommitsTo, UndoesTo, ForcesTo, SendsTo, LowersTo, AsksCheckpoint, TellsTo, CrashesTcTo, FailsTcTo, RestartsTcTo, Taken, TakesTo, IfUp, IfTcUp, down_refusal, StepsTo}
-use Rattle.node_laws.specs.Halves.{of_tc, node_of, also, IsNextNumber, BringsReply, TcLeads}
+use Rattle.node_sides.specs.dc_core.specs.DcView.{fresh_dc}
+use Rattle.node_sides.specs.tc_core.specs.declared.open_txn.OpenTxn.{OpenTxn}
+use Rattle.node_sides.specs.tc_core.specs.declared.open_txn.Rollback.{Rollback}
+use Rattle.node_sides.specs.tc_core.specs.declared.phase.Phase.{Phase}
+use Rattle.node_sides.specs.tc_core.specs.declared.phase.Phase.TheVariants as phase
+use Rattle.node_sides.specs.tc_core.specs.declared.told.UndoStep.{UndoStep}
+use Rattle.node_sides.specs.tc_core.specs.declared.told.UndoStep.TheVariants as undo
+use Rattle.node_sides.specs.tc_core.specs.TcView.{TcView, failed}
+use Rattle.node_sides.specs.tc_core.specs.Refusing.{Refuses}
+use Rattle.node_sides.specs.tc_core.specs.Causes.{RefusesTaking}
+use Rattle.node_sides.specs.tc_core.specs.Calls.{ReconnectGives, Undoes, UndoesStep}
+use Rattle.node_sides.specs.tc_core.specs.Recovery.{SendsAt}
+use Rattle.node_sides.specs.tc_core.specs.Replies.{Outcome, on_reply, on_awaited, on_lost, on_connected, on_redo_ended, on_row, on_rows, takes, awaiting, lacks, reader, is_key, is_range, is_number, span_read}
+use Rattle.node_sides.specs.tc_core.specs.Opened.{IsOpenedAgain}
+use Rattle.node_sides.specs.tc_core.specs.Kept.{IsTc}
+use Rattle.node_sides.specs.node_laws.specs.declared.event.Event.{Event}
+use Rattle.node_sides.specs.node_laws.specs.declared.event.Event.TheVariants as event
+use Rattle.node_sides.specs.node_laws.specs.declared.event.Out.{Out}
+use Rattle.node_sides.specs.node_laws.specs.declared.event.Out.TheVariants as out
+use Rattle.node_sides.specs.node_laws.specs.Component.{TcSide, DcSide, Keeps, tc_size}
+use Rattle.node_sides.specs.node_laws.specs.Node.{NodeView, ReconnectsTo, RecoversTo, BeginsTo, ActsTo, ReadsTo, SavesTo, GoesBackTo, RollsBackTo, CommitsTo, UndoesTo, ForcesTo, SendsTo, LowersTo, AsksCheckpoint, TellsTo, CrashesTcTo, FailsTcTo, RestartsTcTo, Taken, TakesTo, IfUp, IfTcUp, down_refusal, StepsTo}
+use Rattle.node_sides.specs.node_laws.specs.Halves.{of_tc, node_of, also, IsNextNumber, BringsReply, TcLeads}
 
 -- ---- the component's calls
 

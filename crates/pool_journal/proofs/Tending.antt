@@ -2,19 +2,19 @@
 -- step that takes nothing and sends nothing.
 use Rattle.std.proofs.Common.{◌≡◌, ℕ, ◌+◌, Bool, true, false, List, [], Some, None, Ok, refl, ap, ◌∙◌, subst, arith}
 use Rattle.std.specs.Bool.{MatchBool}
-use Rattle.dc_core.specs.DcView.{DcView}
-use Rattle.dc_core.specs.Serves.{with_system}
-use Rattle.dc_core.specs.Tends as dc
+use Rattle.node_sides.specs.dc_core.specs.DcView.{DcView}
+use Rattle.node_sides.specs.dc_core.specs.Serves.{with_system}
+use Rattle.node_sides.specs.dc_core.specs.Tends as dc
 use Rattle.record_key.specs.declared.refusal.Refusal.TheVariants.{NotConnected}
-use Rattle.system_txn.specs.Gives.{Tending, SplitsAt, MergesAt, Rests, TendsTo}
-use Rattle.system_txn.specs.SystemView.{SystemView}
-use Rattle.system_txn.specs.declared.tended.Tended.TheVariants as tended
-use Rattle.node_laws.specs.declared.event.Event.TheVariants as event
-use Rattle.node_laws.specs.declared.event.Out.{Out}
-use Rattle.node_laws.specs.declared.event.Out.TheVariants as out
-use Rattle.node_laws.specs.Component.{DcSide}
-use Rattle.node_laws.specs.Halves.{DcLeads, node_of}
-use Rattle.node_laws.specs.Node.{NodeView, CallsDc, dc_side}
+use Rattle.node_sides.specs.system_txn.specs.Gives.{Tending, SplitsAt, MergesAt, Rests, TendsTo}
+use Rattle.node_sides.specs.system_txn.specs.SystemView.{SystemView}
+use Rattle.node_sides.specs.system_txn.specs.declared.tended.Tended.TheVariants as tended
+use Rattle.node_sides.specs.node_laws.specs.declared.event.Event.TheVariants as event
+use Rattle.node_sides.specs.node_laws.specs.declared.event.Out.{Out}
+use Rattle.node_sides.specs.node_laws.specs.declared.event.Out.TheVariants as out
+use Rattle.node_sides.specs.node_laws.specs.Component.{DcSide}
+use Rattle.node_sides.specs.node_laws.specs.Halves.{DcLeads, node_of}
+use Rattle.node_sides.specs.node_laws.specs.Node.{NodeView, CallsDc, dc_side}
 use Rattle.pool_journal.specs.declared.step.Step.{Step}
 use Rattle.pool_journal.specs.Kept.{EntersDc}
 use Rattle.pool_journal.specs.Steps.{Start, GivesDc, fresh_start}

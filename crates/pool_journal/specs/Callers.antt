@@ -2,7 +2,7 @@
 use Rattle.std.specs.Prelude.{◌≡◌, ℕ, true, Option, Some, None}
 use Rattle.std.specs.Option.{is_some}
 use Rattle.history.specs.ListMachine.{Line}
-use Rattle.node_laws.specs.declared.event.Out.{Out}
+use Rattle.node_sides.specs.node_laws.specs.declared.event.Out.{Out}
 use Rattle.boxcar.specs.Table.{Shelves}
 use Rattle.marks.specs.Seen.{Seen}
 use Rattle.pool_journal.specs.declared.news.News.{News}

@@ -2,11 +2,11 @@
 use Rattle.std.specs.Prelude.{◌≡◌, ℕ, ◌≤◌, Bool, true, false, IsTrue, List, None}
 use Rattle.atomic_table.specs.Seated.{TableId}
 use Rattle.marks.specs.Seen.{Seen}
-use Rattle.node_laws.specs.declared.event.Event.{Event}
-use Rattle.node_laws.specs.declared.event.Event.TheVariants as event
-use Rattle.node_laws.specs.declared.event.Out.TheVariants as out
-use Rattle.node_laws.specs.Component.{DcSide}
-use Rattle.node_laws.specs.Halves.{DcLeads}
+use Rattle.node_sides.specs.node_laws.specs.declared.event.Event.{Event}
+use Rattle.node_sides.specs.node_laws.specs.declared.event.Event.TheVariants as event
+use Rattle.node_sides.specs.node_laws.specs.declared.event.Out.TheVariants as out
+use Rattle.node_sides.specs.node_laws.specs.Component.{DcSide}
+use Rattle.node_sides.specs.node_laws.specs.Halves.{DcLeads}
 use Rattle.pool_journal.specs.declared.step.Step.{Step}
 use Rattle.pool_journal.specs.Marking.{announced}
 use Rattle.pool_journal.specs.Steps.{Start, TcState, DcState, GivesTc, GivesDc}

@@ -4,8 +4,8 @@ use Rattle.std.specs.FinMap.{entries}
 use Rattle.std.specs.Global.{Vec}
 use Rattle.record_key.specs.Table.{Bytes}
 use Rattle.btree.specs.Leaves.{rows_of}
-use Rattle.dc_core.specs.DcView.{leaves}
-use Rattle.node_laws.specs.Component.{DcSide}
+use Rattle.node_sides.specs.dc_core.specs.DcView.{leaves}
+use Rattle.node_sides.specs.node_laws.specs.Component.{DcSide}
 use Rattle.pool_journal.specs.declared.step.Step.{Step}
 use Rattle.pool_journal.specs.Kept.{IsInRun}
 use Rattle.pool_journal.specs.Steps.{Start}

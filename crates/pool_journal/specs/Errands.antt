@@ -1,10 +1,10 @@
 -- What is on its way for a session's transaction, and by what its steps fail.
 use Rattle.std.specs.Prelude.{◌≡◌, ℕ, ◌==◌, Bool, true, false, cond, List, [], ◌∷◌, ◌++◌, Option, Some, None}
-use Rattle.node_laws.specs.declared.event.Event.{Event}
-use Rattle.node_laws.specs.declared.event.Event.TheVariants as event
-use Rattle.node_laws.specs.declared.event.Out.{Out}
-use Rattle.node_laws.specs.declared.event.Out.TheVariants as out
-use Rattle.tc_core.specs.Replies.{is_number}
+use Rattle.node_sides.specs.node_laws.specs.declared.event.Event.{Event}
+use Rattle.node_sides.specs.node_laws.specs.declared.event.Event.TheVariants as event
+use Rattle.node_sides.specs.node_laws.specs.declared.event.Out.{Out}
+use Rattle.node_sides.specs.node_laws.specs.declared.event.Out.TheVariants as out
+use Rattle.node_sides.specs.tc_core.specs.Replies.{is_number}
 use Rattle.pool_journal.specs.Failing.{failure_of}
 use Rattle.pool_journal.specs.declared.errand.Errand.{Errand}
 use Rattle.pool_journal.specs.declared.failure.Failure.{Failure}

@@ -5,17 +5,17 @@ use Rattle.boxcar.specs.Table.{Shelves}
 use Rattle.codec.specs.declared.request.Request.{Request}
 use Rattle.codec.specs.declared.reply.Reply.{Reply}
 use Rattle.history.specs.ListMachine.{Line}
-use Rattle.node_laws.specs.declared.event.Event.{Event}
-use Rattle.node_laws.specs.declared.event.Out.{Out}
-use Rattle.node_laws.specs.declared.event.Event.TheVariants as event
+use Rattle.node_sides.specs.node_laws.specs.declared.event.Event.{Event}
+use Rattle.node_sides.specs.node_laws.specs.declared.event.Out.{Out}
+use Rattle.node_sides.specs.node_laws.specs.declared.event.Event.TheVariants as event
 use Rattle.pool_journal.specs.declared.step.Step.{Step}
 use Rattle.pool_journal.specs.declared.failure.Failure.{Failure}
 use Rattle.pool_journal.specs.declared.place.Place.{Place}
 use Rattle.pool_journal.specs.declared.told.Told.{Told}
 use Rattle.pool_journal.specs.declared.told.Told.TheVariants as is
-use Rattle.node_laws.specs.Component.{DcSide}
-use Rattle.node_laws.specs.Messages.{message_at}
-use Rattle.node_laws.specs.Node.{NodeView, dc_side}
+use Rattle.node_sides.specs.node_laws.specs.Component.{DcSide}
+use Rattle.node_sides.specs.node_laws.specs.Messages.{message_at}
+use Rattle.node_sides.specs.node_laws.specs.Node.{NodeView, dc_side}
 use Rattle.pool_journal.specs.Steps.{is_tc, requests, replies, Start, IsStart, TcState, DcState, TcStep, DcStep, GivesTc, GivesDc, RunsTo}
 use Rattle.pool_journal.specs.Errands.{errand_after, fails, FailsSince}
 use Rattle.pool_journal.specs.Sessions.{part_of, calls_as, pending, line_of, line_to, line_for, ends, cuts_off}

@@ -1,7 +1,7 @@
 -- An event in little room.
 use Rattle.std.specs.Prelude.{◌≡◌, Bool, true, false, ⊤}
-use Rattle.node_laws.specs.declared.event.Event.{Event}
-use Rattle.node_laws.specs.declared.event.Event.TheVariants as event
+use Rattle.node_sides.specs.node_laws.specs.declared.event.Event.{Event}
+use Rattle.node_sides.specs.node_laws.specs.declared.event.Event.TheVariants as event
 use Rattle.pool_journal.specs.declared.kept_event.Kept.{Kept}
 use Rattle.pool_journal.specs.declared.kept_event.Kept.TheVariants as kept
 

@@ -1,7 +1,7 @@
 -- An output in little room.
 use Rattle.std.specs.Prelude.{◌≡◌, Bool, true, false, ⊤}
-use Rattle.node_laws.specs.declared.event.Out.{Out}
-use Rattle.node_laws.specs.declared.event.Out.TheVariants as out
+use Rattle.node_sides.specs.node_laws.specs.declared.event.Out.{Out}
+use Rattle.node_sides.specs.node_laws.specs.declared.event.Out.TheVariants as out
 use Rattle.pool_journal.specs.declared.kept_out.OutForm.{OutForm}
 use Rattle.pool_journal.specs.declared.kept_out.OutForm.TheVariants as kept
 

@@ -15,3 +15,8 @@ pub mod Messages
 pub mod KeptEvents
 pub mod KeptOuts
 pub mod Lending
+-- what a crate above names of those below
+pub use Rattle.node_sides.specs.dc_core as dc_core
+pub use Rattle.node_sides.specs.node_laws as node_laws
+pub use Rattle.node_sides as node_sides
+pub use Rattle.node_sides.specs.system_txn as system_txn

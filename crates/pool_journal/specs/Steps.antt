@@ -4,15 +4,15 @@ use Rattle.std.specs.Bool.{MatchBool}
 use Rattle.codec.specs.declared.request.Request.{Request}
 use Rattle.codec.specs.declared.reply.Reply.{Reply}
 use Rattle.stable.specs.Usage.{unused}
-use Rattle.tc_core.specs.TcView.{fresh_tc}
-use Rattle.dc_core.specs.DcView.{fresh_dc}
-use Rattle.node_laws.specs.declared.event.Event.{Event}
-use Rattle.node_laws.specs.declared.event.Out.{Out}
-use Rattle.node_laws.specs.Component.{TcSide, DcSide}
-use Rattle.node_laws.specs.Halves.{node_of, of_tc, also, BringsReply, BringsRequest, TcLeads, DcLeads}
-use Rattle.node_laws.specs.Kept.{IsKept}
-use Rattle.node_laws.specs.Node.{NodeView}
-use Rattle.node_laws.specs.Stepping.{Chain}
+use Rattle.node_sides.specs.tc_core.specs.TcView.{fresh_tc}
+use Rattle.node_sides.specs.dc_core.specs.DcView.{fresh_dc}
+use Rattle.node_sides.specs.node_laws.specs.declared.event.Event.{Event}
+use Rattle.node_sides.specs.node_laws.specs.declared.event.Out.{Out}
+use Rattle.node_sides.specs.node_laws.specs.Component.{TcSide, DcSide}
+use Rattle.node_sides.specs.node_laws.specs.Halves.{node_of, of_tc, also, BringsReply, BringsRequest, TcLeads, DcLeads}
+use Rattle.node_sides.specs.node_laws.specs.Kept.{IsKept}
+use Rattle.node_sides.specs.node_laws.specs.Node.{NodeView}
+use Rattle.node_sides.specs.node_laws.specs.Stepping.{Chain}
 use Rattle.pool_journal.specs.declared.step.Step.{Step}
 
 abbrev pub is_tc : Step → Bool

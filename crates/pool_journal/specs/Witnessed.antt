@@ -1,10 +1,10 @@
 -- What the row of entries is witness to: that an event was entered, and how a component was up to an entry.
 use Rattle.std.specs.Prelude.{◌≡◌, ℕ, true, List, Option}
 use Rattle.boxcar.specs.Table.{Shelves}
-use Rattle.node_laws.specs.declared.event.Event.{Event}
-use Rattle.node_laws.specs.declared.event.Event.TheVariants as event
-use Rattle.node_laws.specs.Component.{TcSide, LeavesBytes}
-use Rattle.tc_core.specs.declared.phase.Phase.TheVariants as phase
+use Rattle.node_sides.specs.node_laws.specs.declared.event.Event.{Event}
+use Rattle.node_sides.specs.node_laws.specs.declared.event.Event.TheVariants as event
+use Rattle.node_sides.specs.node_laws.specs.Component.{TcSide, LeavesBytes}
+use Rattle.node_sides.specs.tc_core.specs.declared.phase.Phase.TheVariants as phase
 use Rattle.pool_journal.specs.declared.step.Step.{Step}
 use Rattle.pool_journal.specs.Slots.{Slot, seen, Shown, IsShown}
 use Rattle.pool_journal.specs.Steps.{Start, TcState, DcState, GivesTc, GivesDc}

@@ -1,11 +1,11 @@
 //! What lies under the lock of the data component.
 ghost use Rattle.std.specs.Prelude.{◌≡◌, ◌+◌, true, false, None, Some, IfOk, IfErr, IfSome, IfNone, OnOk, OnErr};
 ghost use Rattle.std.specs.Option.{option_copied};
-ghost use Rattle.node_laws.specs.Component as sides;
-ghost use Rattle.node_laws.specs.declared.event.Event.TheVariants as event;
-ghost use Rattle.node_laws.specs.declared.event.Out.TheVariants as out;
-ghost use Rattle.node_laws.specs.Halves.{of_tc, DcLeads, MayDc, IsInNode};
-ghost use Rattle.node_laws.specs.Messages.{message_at};
+ghost use Rattle.node_sides.specs.node_laws.specs.Component as sides;
+ghost use Rattle.node_sides.specs.node_laws.specs.declared.event.Event.TheVariants as event;
+ghost use Rattle.node_sides.specs.node_laws.specs.declared.event.Out.TheVariants as out;
+ghost use Rattle.node_sides.specs.node_laws.specs.Halves.{of_tc, DcLeads, MayDc, IsInNode};
+ghost use Rattle.node_sides.specs.node_laws.specs.Messages.{message_at};
 ghost use Rattle.pool_journal.specs.Ending.{EndsWith};
 ghost use Rattle.pool_journal.specs.Desks.{delivers, TendsNothing};
 ghost use Rattle.pool_journal.specs.Slots.{Shown};
@@ -27,8 +27,8 @@ use crate::tc_desk::next_number;
 use crate::view::Visitor;
 use boxcar::{Pushed, Vec as Row};
 use codec::Request;
-use node_laws::{Event, Out};
 use node_sides::DcSide;
+use node_sides::node_laws::{Event, Out};
 use record_key::{Key, Refusal, Value};
 use stable::{CrashLog, CrashPages};
 use std::alloc::Global;
@@ -48,7 +48,7 @@ pub struct DcDesk<J: Naming, D: CrashLog, P: CrashPages> {
 impl<J: Naming, D: CrashLog, P: CrashPages> Model for DcDesk<J, D, P> {
     ghost use Rattle.std.specs.Coded.{codes};
     ghost use Rattle.record_key.specs.Table.{table_code};
-    ghost use Rattle.system_txn.specs.SystemView.{pages_code};
+    ghost use Rattle.node_sides.specs.system_txn.specs.SystemView.{pages_code};
     ghost use Rattle.pool_journal.specs.Desks.{DcFound, DcDeskKept};
 
     ghost Value = { DcFound };

@@ -1,6 +1,6 @@
 //! What is on its way for a session's transaction.
 ghost use Rattle.std.specs.Prelude.{◌≡◌};
-ghost use Rattle.tc_core.specs.Replies.{is_number};
+ghost use Rattle.node_sides.specs.tc_core.specs.Replies.{is_number};
 
 /// The request that was sent last for a transaction, the reply that was given to it, and whether its commit waits for the
 /// log to be made stable.

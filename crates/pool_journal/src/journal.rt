@@ -1,7 +1,7 @@
 //! What lies under the journal's lock.
 ghost use Rattle.std.specs.Prelude.{◌≡◌, ◌++◌, ◌∷◌, [], None, Some, true, false, IfOk, IfSome, IfNone, OnErr, length, map, vec_len, slice_get};
-ghost use Rattle.node_laws.specs.Halves.{IsSpelledIf};
-ghost use Rattle.node_laws.specs.Messages.{message_at};
+ghost use Rattle.node_sides.specs.node_laws.specs.Halves.{IsSpelledIf};
+ghost use Rattle.node_sides.specs.node_laws.specs.Messages.{message_at};
 ghost use Rattle.pool_journal.specs.Callers.{IsGrown, IsNews, IsUntold};
 ghost use Rattle.pool_journal.specs.Kept.{is_dc, IsInRun, IsSentBy, EntersTc, EntersDc, PlacesKept, place_after};
 ghost use Rattle.pool_journal.specs.declared.news.News.{News};

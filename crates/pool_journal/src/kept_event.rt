@@ -9,7 +9,7 @@ use crate::errand::{Errand, is_number};
 use crate::kept_out::KeptOut;
 use crate::lent::Lent;
 use crate::row::boxed;
-use node_laws::Event;
+use node_sides::node_laws::Event;
 use std::alloc::Global;
 use std::marker::Model;
 use std::sync::Wait;
@@ -37,7 +37,7 @@ enum Kept {
 
 impl Model for KeptEvent {
     ghost use Rattle.std.specs.Coded.{codes};
-    ghost use Rattle.node_laws.specs.declared.event.Event.{Event};
+    ghost use Rattle.node_sides.specs.node_laws.specs.declared.event.Event.{Event};
     ghost use Rattle.pool_journal.specs.KeptEvents.{kept_event, BoxesOtherEvents};
 
     ghost Value = { Event };

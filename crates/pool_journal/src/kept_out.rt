@@ -13,7 +13,7 @@ use crate::failure::{Failure, failure_in};
 use crate::lent::Lent;
 use crate::row::boxed;
 use crate::told::{Told, kind_if, told_to};
-use node_laws::Out;
+use node_sides::node_laws::Out;
 use record_key::Refusal;
 use std::alloc::Global;
 use std::marker::Model;
@@ -46,7 +46,7 @@ pub enum OutForm {
 
 impl Model for KeptOut {
     ghost use Rattle.std.specs.Coded.{codes};
-    ghost use Rattle.node_laws.specs.declared.event.Out.{Out};
+    ghost use Rattle.node_sides.specs.node_laws.specs.declared.event.Out.{Out};
     ghost use Rattle.pool_journal.specs.KeptOuts.{kept_out, BoxesOtherOuts};
 
     ghost Value = { Out };

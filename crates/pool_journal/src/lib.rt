@@ -56,3 +56,6 @@ pub use place::Place;
 pub use step::Step;
 pub use stirs::Stirs;
 pub use tc_desk::TcDesk;
+
+// What a crate above names of those below.
+pub use node_sides::node_laws;

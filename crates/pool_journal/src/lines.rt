@@ -1,7 +1,7 @@
 //! The journal's entries, in order.
 ghost use Rattle.std.specs.Prelude.{◌≡◌, ◌<◌, [], ◌∷◌, ◌++◌, true, IfOk, IfSome, IfNone, OnErr, length, slice_get, cond, vec_len, vec_capacity};
-ghost use Rattle.node_laws.specs.Halves.{IsSpelledIf};
-ghost use Rattle.node_laws.specs.Messages.{message_at};
+ghost use Rattle.node_sides.specs.node_laws.specs.Halves.{IsSpelledIf};
+ghost use Rattle.node_sides.specs.node_laws.specs.Messages.{message_at};
 ghost use Rattle.pool_journal.specs.Steps.{is_tc, RunsFrom, requests, replies, TcState, DcState, GivesTc, GivesDc, IsStart};
 ghost use Rattle.pool_journal.specs.Slots.{Shown, IsShown, seen, through, last_of};
 ghost use Rattle.pool_journal.specs.Views.{Sees};

@@ -1,11 +1,11 @@
 //! What lies under the lock of the transaction component.
 ghost use Rattle.std.specs.Prelude.{◌≡◌, ◌+◌, ◌≤◌, ℕ, true, false, max, IsTrue, Option, None, Some, IfOk, OnErr, IfSome};
 ghost use Rattle.marks.specs.Seen.{raiser, reader};
-ghost use Rattle.tc_core.specs.Kept.{IsTc};
-ghost use Rattle.tc_core.specs.Replies.{is_of_another};
-ghost use Rattle.node_laws.specs.declared.event.Event.TheVariants as event;
-ghost use Rattle.node_laws.specs.Halves.{of_tc, TcLeads, TcTakes};
-ghost use Rattle.node_laws.specs.Messages.{message_at};
+ghost use Rattle.node_sides.specs.tc_core.specs.Kept.{IsTc};
+ghost use Rattle.node_sides.specs.tc_core.specs.Replies.{is_of_another};
+ghost use Rattle.node_sides.specs.node_laws.specs.declared.event.Event.TheVariants as event;
+ghost use Rattle.node_sides.specs.node_laws.specs.Halves.{of_tc, TcLeads, TcTakes};
+ghost use Rattle.node_sides.specs.node_laws.specs.Messages.{message_at};
 ghost use Rattle.pool_journal.specs.Desks.{delivers};
 ghost use Rattle.pool_journal.specs.Marking.{announced, low_of, IsLowOf};
 ghost use Rattle.pool_journal.specs.Sessions.{IsCalled, IsClosed};
@@ -31,14 +31,14 @@ use crate::view::Visitor;
 use boxcar::Pushed;
 use codec::Reply;
 use marks::{Marks, Seat};
-use node_laws::{Event, Out};
 use node_sides::TcSide;
+use node_sides::node_laws::{Event, Out};
+use node_sides::tc_core::Phase;
 use stable::CrashLog;
 use std::alloc::Global;
 use std::marker::Model;
 use std::sync::{Mutex, Wait};
 use std::thread;
-use tc_core::Phase;
 use tie::Mark;
 
 /// The transaction component with what it has seen of the journal. Contracts see the steps up to there, and the

@@ -4,8 +4,8 @@ ghost use Rattle.pool_journal.specs.Kept.{line_kind};
 ghost use Rattle.history.specs.History.{is_among};
 ghost use Rattle.pool_journal.specs.Sessions.{line_to};
 
-use node_laws::Out;
-use tc_core::Committed;
+use node_sides::node_laws::Out;
+use node_sides::tc_core::Committed;
 
 /// What an output tells a transaction.
 #[derive(Debug, Clone, Copy, PartialEq, Eq)]

@@ -19,10 +19,10 @@ use Rattle.marks.proofs.seat.Seat.TheSendSync as seat
 use Rattle.std.specs.contracts.alloc.Global as Global
 use Rattle.std.specs.contracts.impls.GlobalAllocator.TheImpl.{ghosts}
 use Rattle.std.specs.contracts.sync.Arc as Arc
-use Rattle.pool_journal.proofs.caller.Caller.TheSendSync as caller
+use Rattle.shared_node.specs.pool_journal.proofs.caller.Caller.TheSendSync as caller
 use Rattle.shared_node.proofs.board.Job.TheSendSync as job
-use Rattle.session_answers.proofs.ended.Unfinished.TheSendSync as unfinished
-use Rattle.pool_journal.specs.declared.naming.Naming as naming
+use Rattle.shared_node.specs.session_answers.proofs.ended.Unfinished.TheSendSync as unfinished
+use Rattle.shared_node.specs.pool_journal.specs.declared.naming.Naming as naming
 use Rattle.pool_sessions.specs.contracts.session.Session as Session
 use Rattle.pool_sessions.specs.contracts.session.Session.TheInside as SessionInside
 use Rattle.shared_node.specs.contracts.board.Job as Job

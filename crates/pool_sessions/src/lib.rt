@@ -10,3 +10,7 @@ mod ahead;
 mod session;
 
 pub use session::Session;
+
+// What a crate above names of those below.
+pub use shared_node;
+pub use shared_node::{pool_journal, session_answers};

@@ -2,20 +2,20 @@
 ghost use Rattle.std.specs.Prelude.{◌≡◌, ◌≤◌, ℕ, Some, None, IfOk, IfErr};
 ghost use Rattle.history.specs.ListMachine.{TellsAnswer, TellsRow, TellsRows, TellsBack, TellsRolledBack, TellsCommitted};
 ghost use Rattle.marks.specs.Seen.{reader, seeing};
-ghost use Rattle.node_laws.specs.declared.event.Event.TheVariants as event;
-ghost use Rattle.node_laws.specs.declared.event.Out.TheVariants as out;
-ghost use Rattle.session_answers.specs.Answers.{AddsCall, AddsLiveCall, RefusedCall, RefusedBegin, Ends, IsUncalled};
-ghost use Rattle.session_answers.specs.Again.{CarriesOn, IsSeenBy, RefusedAgain, Resumes};
-ghost use Rattle.session_answers.specs.Asking.{event_of};
-ghost use Rattle.pool_journal.specs.Sessions.{IsClosed};
+ghost use Rattle.shared_node.specs.node_laws.specs.declared.event.Event.TheVariants as event;
+ghost use Rattle.shared_node.specs.node_laws.specs.declared.event.Out.TheVariants as out;
+ghost use Rattle.shared_node.specs.session_answers.specs.Answers.{AddsCall, AddsLiveCall, RefusedCall, RefusedBegin, Ends, IsUncalled};
+ghost use Rattle.shared_node.specs.session_answers.specs.Again.{CarriesOn, IsSeenBy, RefusedAgain, Resumes};
+ghost use Rattle.shared_node.specs.session_answers.specs.Asking.{event_of};
+ghost use Rattle.shared_node.specs.pool_journal.specs.Sessions.{IsClosed};
 
 use crate::ahead::Ahead;
 use codec::Rows;
 use crossbeam_channel::Sender;
 use marks::Seat;
-use pool_journal::{Caller, Gate, Naming};
 use record_key::{Answer, Key, Op, Refusal, Value};
-use session_answers::{
+use shared_node::pool_journal::{Caller, Gate, Naming};
+use shared_node::session_answers::{
     Ask, Ended, Told, Unfinished, answer_told, back_told, begun, carried_told, commit_told,
     rollback_told, row_told, rows_told, saved,
 };
@@ -41,8 +41,8 @@ impl<J: Naming, G, D: CrashLog, P: CrashPages> Model for Session<J, G, D, P> {
     ghost use Rattle.std.specs.Prelude.{◌≡◌};
     ghost use Rattle.std.specs.Coded.{codes};
     ghost use Rattle.atomic_table.specs.Seated.{table_id_coded};
-    ghost use Rattle.pool_journal.specs.Callers.{SessionView};
-    ghost use Rattle.session_answers.specs.Unfinished.{IsBetweenCalls};
+    ghost use Rattle.shared_node.specs.pool_journal.specs.Callers.{SessionView};
+    ghost use Rattle.shared_node.specs.session_answers.specs.Unfinished.{IsBetweenCalls};
 
     ghost Value = { SessionView };
 

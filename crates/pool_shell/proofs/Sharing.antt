@@ -5,8 +5,8 @@ use denote.Param.Send.{IsSend, IsSync, recorded_send, struct_send, sendable}
 use Rattle.std.proofs.Crossing.{crosses}
 use Rattle.std.specs.contracts.alloc.Global as Global
 use Rattle.std.specs.contracts.impls.GlobalAllocator.TheImpl.{ghosts}
-use Rattle.pool_sessions.proofs.Sharing.{session_send}
-use Rattle.pool_journal.specs.declared.naming.Naming as naming
+use Rattle.worker_pool.specs.pool_sessions.proofs.Sharing.{session_send}
+use Rattle.worker_pool.specs.pool_journal.specs.declared.naming.Naming as naming
 use Rattle.std.specs.contracts.sync.Arc as Arc
 use Rattle.record_key.proofs.refusal.Refusal.TheSendSync as refusal
 use Rattle.record_key.proofs.value.Value.TheSendSync as value

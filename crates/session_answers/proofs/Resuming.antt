@@ -3,9 +3,9 @@ use Rattle.std.proofs.Common.{◌≡◌, ℕ, ◌==◌, Bool, true, false, cond,
 use Rattle.boxcar.specs.Table.{Shelves}
 use Rattle.history.specs.ListMachine.{Line, TellsAnswer, TellsRow, TellsRows, TellsBack, TellsRolledBack}
 use Rattle.record_key.specs.declared.refusal.Refusal.{Refusal}
-use Rattle.node_laws.specs.declared.event.Event.{Event}
-use Rattle.node_laws.specs.declared.event.Event.TheVariants as event
-use Rattle.node_laws.specs.declared.event.Out.{Out}
+use Rattle.pool_journal.specs.node_laws.specs.declared.event.Event.{Event}
+use Rattle.pool_journal.specs.node_laws.specs.declared.event.Event.TheVariants as event
+use Rattle.pool_journal.specs.node_laws.specs.declared.event.Out.{Out}
 use Rattle.pool_journal.specs.Callers.{HasLine}
 use Rattle.pool_journal.specs.Sessions.{SessionCall, Part, called_as, calls, is_pending, line_to, pending, with_latest}
 use Rattle.pool_journal.specs.Slots.{Slot}

@@ -2,10 +2,10 @@
 use Rattle.std.proofs.Common.{◌≡◌, ℕ, ◌==◌, Bool, true, false, Some, refl, ap, sym, subst}
 use Rattle.history.specs.History.{is_among}
 use Rattle.history.specs.ListMachine.{Line, TellsAnswer, TellsRow, TellsRows, TellsBack, TellsRolledBack, TellsCommitted, TellsLost}
-use Rattle.node_laws.specs.declared.event.Event.{Event}
-use Rattle.node_laws.specs.declared.event.Event.TheVariants as event
-use Rattle.node_laws.specs.declared.event.Out.{Out}
-use Rattle.node_laws.specs.declared.event.Out.TheVariants as out
+use Rattle.pool_journal.specs.node_laws.specs.declared.event.Event.{Event}
+use Rattle.pool_journal.specs.node_laws.specs.declared.event.Event.TheVariants as event
+use Rattle.pool_journal.specs.node_laws.specs.declared.event.Out.{Out}
+use Rattle.pool_journal.specs.node_laws.specs.declared.event.Out.TheVariants as out
 use Rattle.pool_journal.specs.Errands.{is_commit_logged}
 use Rattle.pool_journal.specs.Sessions.{line_to, only_if}
 use Rattle.session_answers.specs.Again.{answers_with}

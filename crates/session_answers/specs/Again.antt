@@ -4,10 +4,10 @@ use Rattle.boxcar.specs.Table.{Shelves}
 use Rattle.history.specs.ListMachine.{Line, TellsAnswer, TellsRow, TellsRows, TellsBack, TellsRolledBack, TellsCommitted}
 use Rattle.record_key.specs.declared.refusal.Refusal.{Refusal}
 use Rattle.record_key.specs.declared.refusal.Refusal.TheVariants.{NotConnected, Unsent}
-use Rattle.node_laws.specs.declared.event.Event.{Event}
-use Rattle.node_laws.specs.declared.event.Event.TheVariants as event
-use Rattle.node_laws.specs.declared.event.Out.{Out}
-use Rattle.node_laws.specs.declared.event.Out.TheVariants as out
+use Rattle.pool_journal.specs.node_laws.specs.declared.event.Event.{Event}
+use Rattle.pool_journal.specs.node_laws.specs.declared.event.Event.TheVariants as event
+use Rattle.pool_journal.specs.node_laws.specs.declared.event.Out.{Out}
+use Rattle.pool_journal.specs.node_laws.specs.declared.event.Out.TheVariants as out
 use Rattle.pool_journal.specs.Errands.{EndsWithFailure, is_commit_logged}
 use Rattle.pool_journal.specs.Failing.{refusal_of}
 use Rattle.pool_journal.specs.Sessions.{SessionCall, Part, called_as, calls, IsClosed}

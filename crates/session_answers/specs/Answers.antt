@@ -4,10 +4,10 @@ use Rattle.history.specs.ListMachine.{Line}
 use Rattle.record_key.specs.declared.refusal.Refusal.{Refusal}
 use Rattle.record_key.specs.declared.refusal.Refusal.TheVariants.{NotOpen, NotConnected, Full}
 use Rattle.std.specs.Option.{is_some}
-use Rattle.node_laws.specs.declared.event.Event.{Event}
-use Rattle.node_laws.specs.declared.event.Event.TheVariants as event
-use Rattle.node_laws.specs.declared.event.Out.{Out}
-use Rattle.node_laws.specs.declared.event.Out.TheVariants as out
+use Rattle.pool_journal.specs.node_laws.specs.declared.event.Event.{Event}
+use Rattle.pool_journal.specs.node_laws.specs.declared.event.Event.TheVariants as event
+use Rattle.pool_journal.specs.node_laws.specs.declared.event.Out.{Out}
+use Rattle.pool_journal.specs.node_laws.specs.declared.event.Out.TheVariants as out
 use Rattle.boxcar.specs.Table.{Shelves}
 use Rattle.session_answers.specs.declared.ended.Ended.{Ended}
 use Rattle.session_answers.specs.declared.ended.Ended.TheVariants as ended

@@ -4,8 +4,8 @@ use Rattle.std.specs.Option.{is_some}
 use Rattle.boxcar.specs.Table.{Shelves}
 use Rattle.record_key.specs.declared.refusal.Refusal.{Refusal}
 use Rattle.record_key.specs.declared.refusal.Refusal.TheVariants.{NotOpen, RollingBack, Unanswered}
-use Rattle.node_laws.specs.declared.event.Out.{Out}
-use Rattle.node_laws.specs.declared.event.Out.TheVariants as out
+use Rattle.pool_journal.specs.node_laws.specs.declared.event.Out.{Out}
+use Rattle.pool_journal.specs.node_laws.specs.declared.event.Out.TheVariants as out
 use Rattle.pool_journal.specs.Sessions.{SessionCall, Part, called_as, is_pending, pending, IsClosed}
 use Rattle.pool_journal.specs.Slots.{Slot, Shown}
 use Rattle.session_answers.specs.declared.ended.Ended.{Ended}

@@ -4,8 +4,8 @@ use Rattle.std.specs.Option.{is_some}
 use Rattle.std.specs.Bool.{MatchBool}
 use Rattle.record_key.specs.declared.refusal.Refusal.{Refusal}
 use Rattle.record_key.specs.declared.refusal.Refusal.TheVariants.{NotConnected}
-use Rattle.node_laws.specs.declared.event.Out.{Out}
-use Rattle.node_laws.specs.declared.event.Out.TheVariants as out
+use Rattle.pool_journal.specs.node_laws.specs.declared.event.Out.{Out}
+use Rattle.pool_journal.specs.node_laws.specs.declared.event.Out.TheVariants as out
 use Rattle.pool_journal.specs.Errands.{EndsWithFailure}
 use Rattle.pool_journal.specs.Failing.{refusal_of}
 use Rattle.pool_journal.specs.Sessions.{SessionCall, Part, is_pending}

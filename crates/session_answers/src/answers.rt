@@ -1,7 +1,7 @@
 //! What a call answers, by how it ended.
 ghost use Rattle.std.specs.Prelude.{◌≡◌, ℕ, false, IfOk, IfErr};
-ghost use Rattle.node_laws.specs.declared.event.Out as outs;
-ghost use Rattle.node_laws.specs.declared.event.Out.TheVariants as out;
+ghost use Rattle.pool_journal.specs.node_laws.specs.declared.event.Out as outs;
+ghost use Rattle.pool_journal.specs.node_laws.specs.declared.event.Out.TheVariants as out;
 ghost use Rattle.session_answers.specs.Again.{AnswersWith, IsNotTold, IsToldSo, answers_with};
 ghost use Rattle.session_answers.specs.Answers.{AreShown, IsRefusalOf, IsToldAs, IsAtOnce, TellsCommit};
 ghost use Rattle.pool_journal.specs.Errands.{is_commit_logged};
@@ -10,7 +10,7 @@ ghost use Rattle.session_answers.specs.Asking.{both, is_begun, is_saved, is_logg
 use crate::ended::{Ended, why};
 use crate::told::Told;
 use codec::Rows;
-use node_laws::{Event, Out};
+use pool_journal::node_laws::{Event, Out};
 use pool_journal::{Hall, KeptOut, Naming, OutForm, copied_value};
 use record_key::{Answer, Refusal, Value};
 use std::sync::Wait;

@@ -2,7 +2,7 @@
 ghost use Rattle.std.specs.Prelude.{◌≡◌};
 ghost use Rattle.session_answers.specs.Asking.{event_of};
 
-use node_laws::Event;
+use pool_journal::node_laws::Event;
 use record_key::{Key, Op};
 
 /// A call of a session's transaction.

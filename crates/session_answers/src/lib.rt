@@ -18,3 +18,7 @@ pub use answers::{
 pub use ask::Ask;
 pub use ended::{Ended, Unfinished, bar, left_by};
 pub use told::Told;
+
+// What a crate above names of those below.
+pub use pool_journal;
+pub use pool_journal::node_laws;

@@ -4,9 +4,9 @@ use Rattle.std.specs.Result.{result_ok}
 use Rattle.std.proofs.Common.{◌≡◌, ℕ, true, sym, Result, Ok, Err}
 use Rattle.boxcar.specs.Table.{Shelves}
 use Rattle.record_key.specs.declared.refusal.Refusal.{Refusal}
-use Rattle.pool_journal.specs.Desks.{DcFound}
-use Rattle.pool_journal.specs.Steps.{Start, GivesDc}
-use Rattle.pool_journal.specs.Witnessed.{AreWitnessed, DcRan}
+use Rattle.session_answers.specs.pool_journal.specs.Desks.{DcFound}
+use Rattle.session_answers.specs.pool_journal.specs.Steps.{Start, GivesDc}
+use Rattle.session_answers.specs.pool_journal.specs.Witnessed.{AreWitnessed, DcRan}
 
 -- what holds of what came well holds of it alone
 pub alone : {T E : Type 0} (P : T → Type 0) (r : Result T E) → IfOk r P → IfSome (result_ok r) P

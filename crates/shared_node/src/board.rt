@@ -1,14 +1,16 @@
 //! What every thread looks at: the entries, and what sessions wait for.
 ghost use Rattle.std.specs.Prelude.{◌≡◌, ℕ, true, false, Some, None, IfSome};
-ghost use Rattle.pool_journal.specs.Callers.{IsNews, IsUntold};
-ghost use Rattle.pool_journal.specs.Sessions.{IsClosed, calls, line_of};
-ghost use Rattle.pool_journal.specs.Slots.{Shown};
+ghost use Rattle.session_answers.specs.pool_journal.specs.Callers.{IsNews, IsUntold};
+ghost use Rattle.session_answers.specs.pool_journal.specs.Sessions.{IsClosed, calls, line_of};
+ghost use Rattle.session_answers.specs.pool_journal.specs.Slots.{Shown};
 
 use crate::after::After;
 use boxcar::Pushed;
 use crossbeam_channel::Sender;
-use node_laws::Event;
-use pool_journal::{Caller, DcDesk, Entry, Hall, Journal, KeptOut, Naming, News, OutForm, hold};
+use session_answers::node_laws::Event;
+use session_answers::pool_journal::{
+    Caller, DcDesk, Entry, Hall, Journal, KeptOut, Naming, News, OutForm, hold,
+};
 use stable::{CrashLog, CrashPages};
 use std::sync::atomic::{AtomicU64, Ordering};
 use std::sync::{Condvar, Mutex, Wait};

@@ -1,8 +1,8 @@
 //! A session's call, from its entry to what was told of it.
 ghost use Rattle.std.specs.Prelude.{◌≡◌, true, ℕ, Some, None, IfOk, IfErr, IfSome, IfNone};
-ghost use Rattle.pool_journal.specs.Sessions.{IsClosed, is_pending};
-ghost use Rattle.pool_journal.specs.Slots.{Shown};
-ghost use Rattle.node_laws.specs.declared.event.Event.TheVariants as event;
+ghost use Rattle.session_answers.specs.pool_journal.specs.Sessions.{IsClosed, is_pending};
+ghost use Rattle.session_answers.specs.pool_journal.specs.Slots.{Shown};
+ghost use Rattle.session_answers.specs.node_laws.specs.declared.event.Event.TheVariants as event;
 ghost use Rattle.session_answers.specs.Again.{Resumes};
 ghost use Rattle.session_answers.specs.Answers.{Ends, Finishes, IsSecond, IsUncalled};
 ghost use Rattle.session_answers.specs.Asking.{event_of};
@@ -14,8 +14,8 @@ use crate::freeing::free;
 use crate::shared::Shared;
 use crate::steps::Rest;
 use crossbeam_channel::Sender;
-use pool_journal::{Caller, Gate, Naming, News};
 use record_key::Refusal;
+use session_answers::pool_journal::{Caller, Gate, Naming, News};
 use session_answers::{Ask, Ended, Unfinished, left_by};
 use stable::{CrashLog, CrashPages};
 use std::sync::Wait;

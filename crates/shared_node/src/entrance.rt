@@ -1,22 +1,22 @@
 //! Where calls are entered: the transaction component under its lock, and the board.
 ghost use Rattle.std.specs.Prelude.{◌≡◌, ◌≤◌, true, false, ℕ, Some, None, IfSome, IfNone};
 ghost use Rattle.marks.specs.Seen.{reader};
-ghost use Rattle.node_laws.specs.declared.event.Event.{Event};
-ghost use Rattle.node_laws.specs.declared.event.Event.TheVariants as event;
-ghost use Rattle.node_laws.specs.Halves.{of_tc};
-ghost use Rattle.pool_journal.specs.Desks.{delivers};
-ghost use Rattle.pool_journal.specs.Sessions.{IsClosed};
-ghost use Rattle.pool_journal.specs.Slots.{Shown};
-ghost use Rattle.pool_journal.specs.Witnessed.{IsEntered, LeftBytes, TcRan};
+ghost use Rattle.session_answers.specs.node_laws.specs.declared.event.Event.{Event};
+ghost use Rattle.session_answers.specs.node_laws.specs.declared.event.Event.TheVariants as event;
+ghost use Rattle.session_answers.specs.node_laws.specs.Halves.{of_tc};
+ghost use Rattle.session_answers.specs.pool_journal.specs.Desks.{delivers};
+ghost use Rattle.session_answers.specs.pool_journal.specs.Sessions.{IsClosed};
+ghost use Rattle.session_answers.specs.pool_journal.specs.Slots.{Shown};
+ghost use Rattle.session_answers.specs.pool_journal.specs.Witnessed.{IsEntered, LeftBytes, TcRan};
 ghost use Rattle.session_answers.specs.Answers.{CallsUntold, IsUnasked, IsSecond};
 ghost use Rattle.session_answers.specs.Asking.{event_of};
 
 use crate::board::Board;
 use boxcar::Pushed;
 use marks::Seat;
-use node_laws::Event;
-use pool_journal::{Caller, Entry, KeptOut, Naming, Next, OutForm, TcDesk, hold};
 use session_answers::Ask;
+use session_answers::node_laws::Event;
+use session_answers::pool_journal::{Caller, Entry, KeptOut, Naming, Next, OutForm, TcDesk, hold};
 use stable::CrashLog;
 use std::sync::{Mutex, Wait};
 

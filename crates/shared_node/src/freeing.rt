@@ -1,12 +1,12 @@
 //! Whether a session's next call may be entered.
 ghost use Rattle.std.specs.Prelude.{◌≡◌, None, IfErr, OnOk};
-ghost use Rattle.pool_journal.specs.Sessions.{calls};
+ghost use Rattle.session_answers.specs.pool_journal.specs.Sessions.{calls};
 ghost use Rattle.session_answers.specs.Answers.{IsUncalled};
 ghost use Rattle.session_answers.specs.Unfinished.{IsBetweenCalls};
 
 use crate::board::Board;
-use pool_journal::{Caller, Naming};
 use record_key::Refusal;
+use session_answers::pool_journal::{Caller, Naming};
 use session_answers::{Unfinished, bar};
 use std::sync::Wait;
 

@@ -20,3 +20,7 @@ pub use board::Job;
 pub use entrance::Entrance;
 pub use shared::Shared;
 pub use worker::work;
+
+// What a crate above names of those below.
+pub use session_answers;
+pub use session_answers::pool_journal;

@@ -1,15 +1,15 @@
 //! How the components are brought up, and in one session.
 ghost use Rattle.std.specs.Prelude.{◌≡◌, true, false, IfOk, IfErr, OnOk, IfSome};
-ghost use Rattle.node_laws.specs.Halves.{of_tc};
+ghost use Rattle.session_answers.specs.node_laws.specs.Halves.{of_tc};
 ghost use Rattle.shared_node.specs.Outages.{IsOutage};
-ghost use Rattle.pool_journal.specs.Desks.{delivers};
-ghost use Rattle.pool_journal.specs.Witnessed.{DcRan, WereUp};
+ghost use Rattle.session_answers.specs.pool_journal.specs.Desks.{delivers};
+ghost use Rattle.session_answers.specs.pool_journal.specs.Witnessed.{DcRan, WereUp};
 
 use crate::shared::Shared;
 use codec::{Reply, Request};
-use node_laws::{Event, Out};
-use pool_journal::{Gate, KeptOut, Naming, Next, OutForm};
 use record_key::Refusal;
+use session_answers::node_laws::{Event, Out};
+use session_answers::pool_journal::{Gate, KeptOut, Naming, Next, OutForm};
 use stable::{CrashLog, CrashPages};
 use std::sync::Wait;
 

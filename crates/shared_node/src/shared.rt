@@ -1,11 +1,11 @@
 //! What the threads share, and what they do under its locks.
-ghost use Rattle.node_laws.specs.declared.event.Event.TheVariants as event;
-ghost use Rattle.pool_journal.specs.Witnessed.{IsEntered};
+ghost use Rattle.session_answers.specs.node_laws.specs.declared.event.Event.TheVariants as event;
+ghost use Rattle.session_answers.specs.pool_journal.specs.Witnessed.{IsEntered};
 
 use crate::board::Board;
 use crate::entrance::Entrance;
-use node_laws::Event;
-use pool_journal::{DcDesk, Hall, Journal, Naming, TcDesk};
+use session_answers::node_laws::Event;
+use session_answers::pool_journal::{DcDesk, Hall, Journal, Naming, TcDesk};
 use stable::{CrashLog, CrashPages};
 use std::sync::{Mutex, Wait};
 

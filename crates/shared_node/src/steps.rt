@@ -1,15 +1,15 @@
 //! The steps by which a call is carried on.
 ghost use Rattle.std.specs.Prelude.{◌≡◌};
-ghost use Rattle.pool_journal.specs.Slots.{Shown};
+ghost use Rattle.session_answers.specs.pool_journal.specs.Slots.{Shown};
 
 use crate::after::After;
 use crate::board::Job;
 use crate::shared::Shared;
 use boxcar::Pushed;
 use crossbeam_channel::Sender;
-use node_laws::Event;
-use pool_journal::{Entry, Gate, KeptOut, Naming, OutForm, hold_soon};
 use record_key::Refusal;
+use session_answers::node_laws::Event;
+use session_answers::pool_journal::{Entry, Gate, KeptOut, Naming, OutForm, hold_soon};
 use stable::{CrashLog, CrashPages};
 use std::sync::Wait;
 

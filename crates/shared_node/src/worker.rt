@@ -1,14 +1,14 @@
 //! What a worker does.
 ghost use Rattle.std.specs.Prelude.{IfSome};
-ghost use Rattle.pool_journal.specs.Slots.{Shown};
+ghost use Rattle.session_answers.specs.pool_journal.specs.Slots.{Shown};
 
 use crate::after::After;
 use crate::board::Job;
 use crate::shared::Shared;
 use boxcar::Pushed;
 use crossbeam_channel::Receiver;
-use pool_journal::{DcDesk, Entry, Gate, Naming, OutForm, hold};
 use record_key::Refusal;
+use session_answers::pool_journal::{DcDesk, Entry, Gate, Naming, OutForm, hold};
 use stable::{CrashLog, CrashPages};
 use std::sync::{MutexGuard, Wait};
 

@@ -21,3 +21,5 @@ pub mod Undoing
 pub mod Undo
 pub mod Seen
 pub mod Heard
+-- what a crate above names of those below
+pub use Rattle.restart as restart

@@ -3,9 +3,9 @@ use Rattle.std.proofs.Common.{◌≡◌, ◌⊎◌, ℕ, ◌+◌, zero, suc, Lis
 use Rattle.std.proofs.ByRecursion.{all_from_every, every_from_all}
 use Rattle.std.specs.List.{AllByRecursion}
 use Rattle.boxcar.specs.Table.{Shelves}
-use Rattle.pool_journal.specs.declared.place.Place.{Place}
+use Rattle.pool_sessions.specs.pool_journal.specs.declared.place.Place.{Place}
 use Rattle.worker_pool.specs.Closing.{below}
-use Rattle.pool_journal.specs.Kept.{PlaceKept, PlacesKept}
+use Rattle.pool_sessions.specs.pool_journal.specs.Kept.{PlaceKept, PlacesKept}
 use Rattle.worker_pool.specs.Opened.{OpenedView, IsNamed, name_at, tie_name}
 
 -- the ties from a place on have the names from there on

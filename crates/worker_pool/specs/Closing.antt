@@ -5,9 +5,9 @@ use Rattle.record_key.specs.Table.{Bytes}
 use Rattle.atomic_table.specs.Seated.{TableId}
 use Rattle.marks.specs.Seen.{reader}
 use Rattle.worker_pool.specs.declared.seated.Sitter.{Sitter}
-use Rattle.pool_journal.specs.declared.step.Step.{Step}
-use Rattle.pool_journal.specs.Callers.{CallerView, SessionView, IsGrown}
-use Rattle.pool_journal.specs.Sessions.{part_of, no_part}
+use Rattle.pool_sessions.specs.pool_journal.specs.declared.step.Step.{Step}
+use Rattle.pool_sessions.specs.pool_journal.specs.Callers.{CallerView, SessionView, IsGrown}
+use Rattle.pool_sessions.specs.pool_journal.specs.Sessions.{part_of, no_part}
 
 -- a session that has made no call, and has seen nothing of the marks
 abbrev pub IsFresh : TableId → SessionView → Type 0

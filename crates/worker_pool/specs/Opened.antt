@@ -5,7 +5,7 @@ use Rattle.atomic_table.specs.Seated.{TableId}
 use Rattle.boxcar.specs.Table.{Shelves}
 use Rattle.marks.specs.Seen.{Seen, raiser, reader}
 use Rattle.worker_pool.specs.declared.opened.Chair.{Chair}
-use Rattle.pool_journal.specs.Steps.{Start, IsStart}
+use Rattle.pool_sessions.specs.pool_journal.specs.Steps.{Start, IsStart}
 
 -- the components with which it begins, its row, its marks, and the names of its ties: of each component, and of each
 -- session

@@ -6,8 +6,8 @@ ghost use Rattle.worker_pool.specs.Opened.{IsNamed};
 
 use crate::opened::{Opened, Start};
 use crate::seated::{Seated, Sitter, seat_all};
-use pool_journal::{DcDesk, Gate, Hall, Journal, Lines, Naming, Stirs, TcDesk};
-use shared_node::Shared;
+use pool_sessions::pool_journal::{DcDesk, Gate, Hall, Journal, Lines, Naming, Stirs, TcDesk};
+use pool_sessions::shared_node::Shared;
 use stable::{CrashLog, CrashPages};
 use std::alloc::AllocError;
 use std::sync::Arc;

@@ -1,11 +1,11 @@
 //! What an engine leaves.
 ghost use Rattle.std.specs.Prelude.{◌≡◌, length, slice_get, IfOk, IfErr, IfSome, IfNone, Some, None};
-ghost use Rattle.node_laws.specs.Node.{NodeView};
-ghost use Rattle.node_laws.specs.Promises.{Promises};
-ghost use Rattle.pool_journal.specs.Ending.{EndsWith};
-ghost use Rattle.pool_journal.specs.Steps.{RunsFrom, RunsTo};
+ghost use Rattle.world.specs.node_laws.specs.Node.{NodeView};
+ghost use Rattle.world.specs.node_laws.specs.Promises.{Promises};
+ghost use Rattle.pool_sessions.specs.pool_journal.specs.Ending.{EndsWith};
+ghost use Rattle.pool_sessions.specs.pool_journal.specs.Steps.{RunsFrom, RunsTo};
 
-use pool_journal::{Hall, Journal, Naming, Step};
+use pool_sessions::pool_journal::{Hall, Journal, Naming, Step};
 use record_key::{Key, Refusal, Value};
 use std::alloc::Global;
 use std::marker::Model;
@@ -26,7 +26,7 @@ pub struct Closed<J: Naming> {
 
 impl<J: Naming> Model for Closed<J> {
     ghost use Rattle.std.specs.Coded.{codes};
-    ghost use Rattle.pool_journal.specs.Ending.{EndsWith};
+    ghost use Rattle.pool_sessions.specs.pool_journal.specs.Ending.{EndsWith};
     ghost use Rattle.worker_pool.specs.Closing.{ClosedView};
 
     ghost Value = { ClosedView };

@@ -1,10 +1,10 @@
 //! An engine: the workers over what the threads share.
 ghost use Rattle.std.specs.Prelude.{◌≡◌, ◌<◌, IfOk, IfErr, OnOk, length};
 ghost use Rattle.std.specs.List.{AllByRecursion};
-ghost use Rattle.node_laws.specs.declared.event.Event.TheVariants as event;
-ghost use Rattle.pool_journal.specs.Ending.{EndsWith};
-ghost use Rattle.pool_journal.specs.Witnessed.{IsEntered, LeftBytes, WereUp};
-ghost use Rattle.shared_node.specs.Outages.{IsOutage};
+ghost use Rattle.world.specs.node_laws.specs.declared.event.Event.TheVariants as event;
+ghost use Rattle.pool_sessions.specs.pool_journal.specs.Ending.{EndsWith};
+ghost use Rattle.pool_sessions.specs.pool_journal.specs.Witnessed.{IsEntered, LeftBytes, WereUp};
+ghost use Rattle.pool_sessions.specs.shared_node.specs.Outages.{IsOutage};
 ghost use Rattle.worker_pool.specs.Closing.{IsFresh, IsKeptBy, below, numbers_named};
 ghost use Rattle.worker_pool.specs.Opened.{IsNamed};
 
@@ -14,16 +14,16 @@ use crate::opened::Opened;
 use crate::seated::{callers_of, cover, sessions_of};
 use boxcar::Vec as Row;
 use crossbeam_channel::{Receiver, Sender};
-use node_laws::Event;
-use pool_journal::{DcDesk, Entry, Gate, Journal, Naming};
 use pool_sessions::Session;
+use pool_sessions::pool_journal::{DcDesk, Entry, Gate, Journal, Naming};
+use pool_sessions::shared_node::{Job, Shared, work};
 use record_key::{Key, Refusal, Value};
-use shared_node::{Job, Shared, work};
 use stable::{CrashLog, CrashPages, MemLog, MemPages};
 use std::alloc::{AllocError, Global};
 use std::sync::{Arc, Wait};
 use std::thread;
 use std::thread::{JoinHandle, Threads};
+use world::node_laws::Event;
 
 /// Workers that serve the sessions' requests. What its sessions are called with is given out with it.
 pub struct Engine<J: Naming, G, D: CrashLog = MemLog, P: CrashPages = MemPages> {

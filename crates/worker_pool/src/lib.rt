@@ -15,6 +15,6 @@ mod seated;
 pub use closed::Closed;
 pub use engine::Engine;
 pub use opened::Opened;
-pub use pool_journal::{Entry, Gate, Naming, Step};
 pub use pool_sessions::Session;
-pub use session_answers::Told;
+pub use pool_sessions::pool_journal::{Entry, Gate, Naming, Step};
+pub use pool_sessions::session_answers::Told;

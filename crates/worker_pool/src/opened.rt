@@ -2,21 +2,21 @@
 ghost use Rattle.std.specs.Prelude.{◌≡◌, ◌<◌, ◌≤◌, [], All, length, map, vec_len, Err, IfOk, IfErr};
 ghost use Rattle.std.specs.List.{AllByRecursion};
 ghost use Rattle.marks.specs.Seen.{raiser, reader};
-ghost use Rattle.node_laws.specs.Forgetting.{without_messages};
-ghost use Rattle.node_laws.specs.Node.{fresh_node};
-ghost use Rattle.pool_journal.specs.Steps.{node_at};
+ghost use Rattle.world.specs.node_laws.specs.Forgetting.{without_messages};
+ghost use Rattle.world.specs.node_laws.specs.Node.{fresh_node};
+ghost use Rattle.pool_sessions.specs.pool_journal.specs.Steps.{node_at};
 ghost use Rattle.worker_pool.specs.Opened.{ReadsMarks};
 
 use boxcar::Vec as Row;
 use marks::{Marks, Seat};
-use node_sides::{DcSide, TcSide};
-use pool_journal::Entry;
+use pool_sessions::pool_journal::Entry;
 use record_key::Refusal;
 use stable::{CrashLog, CrashPages, MemLog, MemPages};
 use std::alloc::{AllocError, Global};
 use std::marker::Model;
 use tie::{Book, Mark};
 use world::World;
+use world::node_sides::{DcSide, TcSide};
 
 /// The most sessions that an engine has.
 const MOST: usize = 8;
@@ -122,7 +122,7 @@ impl<D: CrashLog, P: CrashPages> Model for Opened<D, P> {
     ghost use Rattle.atomic_table.specs.Seated.{table_id_coded};
     ghost use Rattle.boxcar.specs.Table.{shelves_coded};
     ghost use Rattle.record_key.specs.Table.{table_code};
-    ghost use Rattle.system_txn.specs.SystemView.{pages_code};
+    ghost use Rattle.world.specs.system_txn.specs.SystemView.{pages_code};
     ghost use Rattle.worker_pool.specs.Opened.{OpenedView, opened_as, IsOpenedWith};
 
     ghost Value = { OpenedView };

@@ -2,16 +2,16 @@
 ghost use Rattle.std.specs.Prelude.{◌≡◌, ◌≤◌, [], IfOk, length, vec_len};
 ghost use Rattle.std.specs.List.{AllByRecursion};
 ghost use Rattle.worker_pool.specs.Closing.{IsFresh, IsCovered, IsSeated, below, callers_as, numbers_in, numbers_named};
-ghost use Rattle.pool_journal.specs.Kept.{PlacesKept};
+ghost use Rattle.pool_sessions.specs.pool_journal.specs.Kept.{PlacesKept};
 ghost use Rattle.worker_pool.specs.Opened.{AreTied, ReadsMarks, ties_of};
 
 use crate::opened::Chair;
 use boxcar::Vec as Row;
 use crossbeam_channel::Sender;
 use marks::Seat;
-use pool_journal::{Caller, Entry, Gate, Journal, Naming, Place};
 use pool_sessions::Session;
-use shared_node::{Job, Shared};
+use pool_sessions::pool_journal::{Caller, Entry, Gate, Journal, Naming, Place};
+use pool_sessions::shared_node::{Job, Shared};
 use stable::{CrashLog, CrashPages};
 use std::alloc::{AllocError, Global};
 use std::sync::Arc;

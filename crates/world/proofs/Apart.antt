@@ -18,9 +18,9 @@ use Rattle.codec.specs.declared.reply.Reply.{Reply}
 use Rattle.codec.specs.declared.reply.Reply.TheVariants as says
 use Rattle.world.specs.declared.sent.Asked.TheVariants as asked
 use Rattle.world.specs.declared.sent.Said.TheVariants as said
-use Rattle.node_laws.specs.Messages.{message_at}
+use Rattle.node_sides.specs.node_laws.specs.Messages.{message_at}
 use Rattle.world.specs.Sent.{AllStand, StandsAt, IsReadApart, IsHeardApart, IsOfSession, WasSent}
-use Rattle.node_laws.proofs.Invariant.ByNumber.{all_at}
+use Rattle.node_sides.specs.node_laws.proofs.Invariant.ByNumber.{all_at}
 
 read_at_number : {X : Type 0} (read : ℕ → X) (places : List ℕ) (i place : ℕ) → message_at places i ≡ Some place
     → message_at (map read places) i ≡ Some (read place)

@@ -8,23 +8,23 @@ use Rattle.std.proofs.lemmas.List.{length-append, take_at, drop_at}
 use Rattle.record_key.specs.declared.refusal.Refusal.{Refusal}
 use Rattle.record_key.specs.declared.refusal.Refusal.TheVariants.{NotConnected}
 use Rattle.history.specs.ListMachine.{Machine, Line, Steps}
-use Rattle.dc_core.specs.DcView.{DcView}
-use Rattle.dc_core.specs.Serves.{with_system}
-use Rattle.node_laws.specs.declared.event.Event.TheVariants as event
-use Rattle.node_laws.specs.declared.event.Out.{Out}
-use Rattle.node_laws.specs.declared.event.Out.TheVariants as out
-use Rattle.node_laws.specs.declared.round.Round.{Round}
-use Rattle.node_laws.specs.Bound.{rounds_left, most_rounds}
-use Rattle.node_laws.specs.Kept.{IsKept}
-use Rattle.node_laws.specs.Node.{NodeView, KeepsUpTo, with_dc}
+use Rattle.node_sides.specs.dc_core.specs.DcView.{DcView}
+use Rattle.node_sides.specs.dc_core.specs.Serves.{with_system}
+use Rattle.node_sides.specs.node_laws.specs.declared.event.Event.TheVariants as event
+use Rattle.node_sides.specs.node_laws.specs.declared.event.Out.{Out}
+use Rattle.node_sides.specs.node_laws.specs.declared.event.Out.TheVariants as out
+use Rattle.node_sides.specs.node_laws.specs.declared.round.Round.{Round}
+use Rattle.node_sides.specs.node_laws.specs.Bound.{rounds_left, most_rounds}
+use Rattle.node_sides.specs.node_laws.specs.Kept.{IsKept}
+use Rattle.node_sides.specs.node_laws.specs.Node.{NodeView, KeepsUpTo, with_dc}
 use Rattle.std.specs.Result.{IsErrAnd}
-use Rattle.node_laws.specs.declared.event.Event.{Event}
-use Rattle.node_laws.specs.Rounds.{IsNextRound, IsAtRest, Plays, StopsAt, Performed, Stopped, Does, events_of}
-use Rattle.node_laws.specs.Simulation.{NodeStandsFor, StepsIf, lines_of}
-use Rattle.node_laws.specs.Stepping.{TellsOn, told_by, told_by_all}
-use Rattle.node_laws.proofs.Settles.Falls.{falls}
-use Rattle.node_laws.proofs.Settles.Telling.{tells_rounds, tells_stopped, tells_then}
-use Rattle.node_laws.proofs.Settles.Wants.{wants}
+use Rattle.node_sides.specs.node_laws.specs.declared.event.Event.{Event}
+use Rattle.node_sides.specs.node_laws.specs.Rounds.{IsNextRound, IsAtRest, Plays, StopsAt, Performed, Stopped, Does, events_of}
+use Rattle.node_sides.specs.node_laws.specs.Simulation.{NodeStandsFor, StepsIf, lines_of}
+use Rattle.node_sides.specs.node_laws.specs.Stepping.{TellsOn, told_by, told_by_all}
+use Rattle.node_sides.specs.node_laws.proofs.Settles.Falls.{falls}
+use Rattle.node_sides.specs.node_laws.proofs.Settles.Telling.{tells_rounds, tells_stopped, tells_then}
+use Rattle.node_sides.specs.node_laws.proofs.Settles.Wants.{wants}
 use Rattle.world.specs.BringingUp.{tells, Eases, EasedRounds, Eased, BringsUp}
 
 -- a Tend tells nobody anything, and leaves as many rounds

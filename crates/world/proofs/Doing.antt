@@ -1,11 +1,11 @@
 -- What a node's transaction component does, as a step of the node.
 use Rattle.std.specs.Prelude.{Option}
 use Rattle.codec.specs.declared.request.Request.{Request}
-use Rattle.node_laws.specs.declared.event.Event.{Event}
-use Rattle.node_laws.specs.declared.event.Out.{Out}
-use Rattle.node_laws.specs.Component.{TcSide}
-use Rattle.node_laws.specs.Halves.{node_of, also}
-use Rattle.node_laws.specs.Node.{StepsTo}
+use Rattle.node_sides.specs.node_laws.specs.declared.event.Event.{Event}
+use Rattle.node_sides.specs.node_laws.specs.declared.event.Out.{Out}
+use Rattle.node_sides.specs.node_laws.specs.Component.{TcSide}
+use Rattle.node_sides.specs.node_laws.specs.Halves.{node_of, also}
+use Rattle.node_sides.specs.node_laws.specs.Node.{StepsTo}
 use Rattle.world.specs.declared.node.Node.{Node}
 use Rattle.world.specs.Seen.{seen}
 

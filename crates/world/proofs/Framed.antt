@@ -15,7 +15,7 @@ use Rattle.codec.proofs.Fields.{length-number}
 use Rattle.codec.proofs.Indexed.{GoesOn, goes_on, indexes_none}
 use Rattle.world.specs.Sent.{StandsAt, AllStand}
 use Rattle.record_key.proofs.Lists.{all_from}
-use Rattle.node_laws.proofs.Invariant.ByNumber.{all_push}
+use Rattle.node_sides.specs.node_laws.proofs.Invariant.ByNumber.{all_push}
 
 -- a reply that was found by its rows is that reply
 pub rows_are : (r x : Reply) → Some x ≡ rows_of r → x ≡ r

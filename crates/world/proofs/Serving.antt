@@ -4,12 +4,12 @@ use Rattle.record_key.specs.declared.op.Answer.{Answer}
 use Rattle.codec.specs.declared.parted.Asking.{Asking}
 use Rattle.codec.specs.declared.request.Request.{Request}
 use Rattle.codec.specs.declared.reply.Reply.{Reply}
-use Rattle.dc_core.specs.Performing.{reply_with, reply_if}
-use Rattle.node_laws.specs.declared.event.Event.TheVariants as event
-use Rattle.node_laws.specs.declared.event.Out.{Out}
-use Rattle.node_laws.specs.Component.{DcSide}
-use Rattle.node_laws.specs.Halves.{node_of, also, IsNextNumber, DcServes}
-use Rattle.node_laws.specs.Node.{StepsTo}
+use Rattle.node_sides.specs.dc_core.specs.Performing.{reply_with, reply_if}
+use Rattle.node_sides.specs.node_laws.specs.declared.event.Event.TheVariants as event
+use Rattle.node_sides.specs.node_laws.specs.declared.event.Out.{Out}
+use Rattle.node_sides.specs.node_laws.specs.Component.{DcSide}
+use Rattle.node_sides.specs.node_laws.specs.Halves.{node_of, also, IsNextNumber, DcServes}
+use Rattle.node_sides.specs.node_laws.specs.Node.{StepsTo}
 use Rattle.world.specs.Sent.{told_in, told_after, told_last}
 use Rattle.world.specs.Served.{ServesRequest}
 

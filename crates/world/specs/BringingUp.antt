@@ -2,14 +2,14 @@
 -- go.
 use Rattle.std.specs.Prelude.{◌≡◌, ◌<◌, ◌≤◌, Bool, List, [], ◌∷◌, ◌++◌, Result, Ok, Err, length, filter, nat_lt}
 use Rattle.record_key.specs.declared.refusal.Refusal.{Refusal}
-use Rattle.node_laws.specs.declared.event.Event.TheVariants as event
-use Rattle.node_laws.specs.declared.event.Out.{Out}
-use Rattle.node_laws.specs.declared.round.Round.{Round}
-use Rattle.node_laws.specs.Bound.{most_rounds}
-use Rattle.node_laws.specs.Forgetting.{without_messages}
-use Rattle.node_laws.specs.Node.{NodeView}
-use Rattle.node_laws.specs.Rounds.{IsNextRound, IsAtRest, IsWant, Plays, StopsAt, events_of}
-use Rattle.node_laws.specs.Stepping.{IsStep, TellsOn, told_by}
+use Rattle.node_sides.specs.node_laws.specs.declared.event.Event.TheVariants as event
+use Rattle.node_sides.specs.node_laws.specs.declared.event.Out.{Out}
+use Rattle.node_sides.specs.node_laws.specs.declared.round.Round.{Round}
+use Rattle.node_sides.specs.node_laws.specs.Bound.{most_rounds}
+use Rattle.node_sides.specs.node_laws.specs.Forgetting.{without_messages}
+use Rattle.node_sides.specs.node_laws.specs.Node.{NodeView}
+use Rattle.node_sides.specs.node_laws.specs.Rounds.{IsNextRound, IsAtRest, IsWant, Plays, StopsAt, events_of}
+use Rattle.node_sides.specs.node_laws.specs.Stepping.{IsStep, TellsOn, told_by}
 
 -- the output tells a client something
 abbrev pub tells : Out → Bool

@@ -1,5 +1,5 @@
 -- What is seen of the two components and their messages.
-use Rattle.node_laws.specs.Node.{NodeView}
+use Rattle.node_sides.specs.node_laws.specs.Node.{NodeView}
 use Rattle.world.specs.declared.node.Node.{Node}
 
 abbrev pub seen : {D P : Type 0} → Node D P → NodeView

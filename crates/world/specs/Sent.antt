@@ -15,7 +15,7 @@ use Rattle.codec.specs.Frames.{frame, any_length}
 use Rattle.codec.specs.Reading.{Reader, frame_at, within, request_at, reply_at}
 use Rattle.framed_log.specs.Spelled.{taken_or}
 use Rattle.codec.specs.Replies.{reply_bytes, session_of, has_rows, IsReply}
-use Rattle.tc_core.specs.Replies.{is_of_another}
+use Rattle.node_sides.specs.tc_core.specs.Replies.{is_of_another}
 use Rattle.codec.specs.declared.request.Request.{Request}
 use Rattle.codec.specs.declared.request.Request.TheVariants as asks
 use Rattle.codec.specs.declared.reply.Reply.{Reply}
@@ -24,7 +24,7 @@ use Rattle.world.specs.declared.sent.Asked.{Asked}
 use Rattle.world.specs.declared.sent.Asked.TheVariants as asked
 use Rattle.world.specs.declared.sent.Said.{Said}
 use Rattle.world.specs.declared.sent.Said.TheVariants as said
-use Rattle.node_laws.specs.Messages.{message_at}
+use Rattle.node_sides.specs.node_laws.specs.Messages.{message_at}
 
 -- what is seen of them: the messages, the oldest first, and whether there is room for one more without rows
 pub record SentView (X : Type 0) : Type 0 where

@@ -1,11 +1,11 @@
 //! A node that was opened on a log is brought to rest.
 ghost use Rattle.std.specs.Prelude.{◌≡◌, ◌≤◌, ◌++◌, length, take, drop, filter};
-ghost use Rattle.node_laws.specs.Kept.{IsKept};
+ghost use Rattle.node_sides.specs.node_laws.specs.Kept.{IsKept};
 ghost use Rattle.world.specs.BringingUp.{BringsUp, Eases, tells};
 
 use crate::settling::play;
 use crate::world::World;
-use node_laws::{Event, Out};
+use node_sides::node_laws::{Event, Out};
 use record_key::Refusal;
 use stable::{CrashLog, CrashPages};
 

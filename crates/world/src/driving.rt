@@ -3,12 +3,12 @@ ghost use Rattle.std.specs.Prelude.{◌≡◌, IfOk, OnErr, IsOkUnless};
 ghost use Rattle.history.specs.History.{plain};
 ghost use Rattle.history.specs.ListMachine.{Machine};
 ghost use Rattle.btree.specs.Leaves.{rows_of};
-ghost use Rattle.dc_core.specs.DcView.{leaves};
-ghost use Rattle.node_laws.specs.Stepping.{Chain};
-ghost use Rattle.node_laws.specs.Simulation.{LeadsAll, NodeStandsFor, IsSettled};
+ghost use Rattle.node_sides.specs.dc_core.specs.DcView.{leaves};
+ghost use Rattle.node_sides.specs.node_laws.specs.Stepping.{Chain};
+ghost use Rattle.node_sides.specs.node_laws.specs.Simulation.{LeadsAll, NodeStandsFor, IsSettled};
 
 use crate::world::World;
-use node_laws::{Event, Out};
+use node_sides::node_laws::{Event, Out};
 use record_key::Refusal;
 use stable::{CrashLog, CrashPages};
 use std::alloc::Global;

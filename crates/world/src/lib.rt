@@ -19,9 +19,13 @@ mod settling;
 mod world;
 
 pub use bringing_up::bring_up;
-pub use dc_core::{Device, Neighbours};
 pub use driving::drive;
-pub use node_laws::{Event, Out, Round, fallen_law, forgetting_law};
+pub use node_sides::dc_core::{Device, Neighbours};
+pub use node_sides::node_laws::{Event, Out, Round, fallen_law, forgetting_law};
 pub use node_sides::{DcSide, TcSide};
 pub use settling::settle;
 pub use world::World;
+
+// What a crate above names of those below.
+pub use node_sides;
+pub use node_sides::{dc_core, node_laws, tc_core};

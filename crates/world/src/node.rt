@@ -1,22 +1,22 @@
 //! The two components, and the messages between them.
 ghost use Rattle.std.specs.Prelude.{◌≡◌, true, [], None, IfOk, IfErr, IfSome, IfNone, OnSome};
-ghost use Rattle.node_laws.specs.Node.{fresh_node, StepsTo};
-ghost use Rattle.dc_core.specs.Kept.{IsDc};
-ghost use Rattle.tc_core.specs.Kept.{IsTc};
-ghost use Rattle.node_laws.specs.Halves.{node_of, of_tc, IsNextNumber, BringsReply};
-ghost use Rattle.node_laws.specs.Kept.{IsKept};
+ghost use Rattle.node_sides.specs.node_laws.specs.Node.{fresh_node, StepsTo};
+ghost use Rattle.node_sides.specs.dc_core.specs.Kept.{IsDc};
+ghost use Rattle.node_sides.specs.tc_core.specs.Kept.{IsTc};
+ghost use Rattle.node_sides.specs.node_laws.specs.Halves.{node_of, of_tc, IsNextNumber, BringsReply};
+ghost use Rattle.node_sides.specs.node_laws.specs.Kept.{IsKept};
 ghost use Rattle.world.specs.Seen.{seen};
 ghost use Rattle.record_key.specs.Lent.{op_lent};
 ghost use Rattle.codec.specs.Parted.{get_of, request_to};
 ghost use Rattle.codec.specs.Requests.{IsRequest};
-ghost use Rattle.dc_core.specs.Serves.{MayAsk};
+ghost use Rattle.node_sides.specs.dc_core.specs.Serves.{MayAsk};
 ghost use Rattle.world.specs.Served.{ServesRequest};
 
 use crate::attempt::attempt;
 use crate::parts::{GetParts, PerformParts, RowParts};
 use crate::sent::{Asked, Said, Sent};
 use codec::{Asking, Reading, Reply, Request};
-use node_laws::{Event, Out};
+use node_sides::node_laws::{Event, Out};
 use node_sides::{DcSide, TcSide};
 use record_key::{Key, OpRef, Refusal};
 use stable::{CrashLog, CrashPages, MemLog, MemPages};

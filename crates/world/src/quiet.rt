@@ -3,8 +3,8 @@ ghost use Rattle.std.specs.Prelude.{◌≡◌, ◌↔◌, [], IsTrue};
 ghost use Rattle.world.specs.Quiet.{IsQuiet};
 
 use crate::world::World;
+use node_sides::tc_core::Tc;
 use stable::{CrashLog, CrashPages, LogDevice};
-use tc_core::Tc;
 
 impl<D: CrashLog, P: CrashPages> World<D, P> {
     /// Whether nothing is left to do, and no transaction is open. Takes no memory and reads no record.

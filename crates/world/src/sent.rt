@@ -2,9 +2,9 @@
 //! stays until all is let go: a message may be delivered any number of times, late, or never.
 ghost use Rattle.std.specs.Prelude.{◌≡◌, ◌<◌, ◌++◌, ◌∷◌, ◌⊎◌, [], true, false, length, Some, IfOk, IfErr, IfNone, OnOk, OnErr, OnSome};
 ghost use Rattle.codec.specs.FrameIndex.{places_of, Indexes};
-ghost use Rattle.node_laws.specs.Halves.{IsNextNumber};
-ghost use Rattle.node_laws.specs.Messages.{message_at};
-ghost use Rattle.node_laws.specs.Node.{IsUnsent};
+ghost use Rattle.node_sides.specs.node_laws.specs.Halves.{IsNextNumber};
+ghost use Rattle.node_sides.specs.node_laws.specs.Messages.{message_at};
+ghost use Rattle.node_sides.specs.node_laws.specs.Node.{IsUnsent};
 ghost use Rattle.world.specs.Sent.{IsReadApart, IsHeardApart, IsStale, IsUnreadOf};
 
 use crate::message::{Message, reply_at, request_at, session_at};

@@ -1,10 +1,10 @@
 //! Rounds, until none is left.
 ghost use Rattle.std.specs.Prelude.{◌≡◌, ◌∷◌, []};
-ghost use Rattle.node_laws.specs.Kept.{IsKept};
-ghost use Rattle.node_laws.specs.Rounds.{Settles, Does, IsNextRound, IsExchange, events_of, exchange, fewer};
+ghost use Rattle.node_sides.specs.node_laws.specs.Kept.{IsKept};
+ghost use Rattle.node_sides.specs.node_laws.specs.Rounds.{Settles, Does, IsNextRound, IsExchange, events_of, exchange, fewer};
 
 use crate::world::World;
-use node_laws::{Event, Out, Round};
+use node_sides::node_laws::{Event, Out, Round};
 use record_key::Refusal;
 use stable::{CrashLog, CrashPages};
 

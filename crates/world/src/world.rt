@@ -7,29 +7,29 @@ ghost use Rattle.framed_log.specs.Beginning.{beginning};
 ghost use Rattle.logical_log.specs.Spelled.{spelled};
 ghost use Rattle.page.specs.Leaf.{first};
 ghost use Rattle.btree.specs.Leaves.{rows_of};
-ghost use Rattle.dc_core.specs.DcView.{leaves};
-ghost use Rattle.tc_core.specs.Causes.{begin_refusal};
-ghost use Rattle.node_laws.specs.Halves.{node_of};
-ghost use Rattle.node_laws.specs.Forgetting.{without_messages};
-ghost use Rattle.node_laws.specs.Node.{fresh_node, joined, if_up};
-ghost use Rattle.node_laws.specs.Simulation.{NodeStandsFor};
-ghost use Rattle.node_laws.specs.Stepping.{IsStep};
+ghost use Rattle.node_sides.specs.dc_core.specs.DcView.{leaves};
+ghost use Rattle.node_sides.specs.tc_core.specs.Causes.{begin_refusal};
+ghost use Rattle.node_sides.specs.node_laws.specs.Halves.{node_of};
+ghost use Rattle.node_sides.specs.node_laws.specs.Forgetting.{without_messages};
+ghost use Rattle.node_sides.specs.node_laws.specs.Node.{fresh_node, joined, if_up};
+ghost use Rattle.node_sides.specs.node_laws.specs.Simulation.{NodeStandsFor};
+ghost use Rattle.node_sides.specs.node_laws.specs.Stepping.{IsStep};
 ghost use Rattle.simulation.specs.Reading.{machine_read};
-ghost use Rattle.node_laws.specs.Kept.{IsKept, IsRebuildable, IsFreshDc};
-ghost use Rattle.node_laws.specs.Promises.{Promises};
-ghost use Rattle.node_laws.specs.Rounds.{IsNextRound, IsAtRest, AreApart, round_for, recovery_round};
+ghost use Rattle.node_sides.specs.node_laws.specs.Kept.{IsKept, IsRebuildable, IsFreshDc};
+ghost use Rattle.node_sides.specs.node_laws.specs.Promises.{Promises};
+ghost use Rattle.node_sides.specs.node_laws.specs.Rounds.{IsNextRound, IsAtRest, AreApart, round_for, recovery_round};
 
 use crate::node::Node;
-use dc_core::Dc;
 use history::Record;
-use node_laws::{Event, Out, Round, forgetting_law};
+use node_sides::dc_core::Dc;
+use node_sides::node_laws::{Event, Out, Round, forgetting_law};
+use node_sides::tc_core::{OpenTxn, Phase, Tc};
 use node_sides::{DcSide, TcSide};
 use page::Leaf;
 use record_key::{Key, Refusal, Value};
 use stable::{CrashLog, CrashPages, MemLog, MemPages};
 use std::alloc::Global;
 use std::marker::Model;
-use tc_core::{OpenTxn, Phase, Tc};
 
 /// A node with what holds of it at every moment.
 #[derive(Drop)]
@@ -40,9 +40,9 @@ pub struct World<D: CrashLog = MemLog, P: CrashPages = MemPages> {
 impl<D: CrashLog, P: CrashPages> Model for World<D, P> {
     ghost use Rattle.std.specs.Coded.{codes};
     ghost use Rattle.record_key.specs.Table.{table_code};
-    ghost use Rattle.system_txn.specs.SystemView.{pages_code};
-    ghost use Rattle.node_laws.specs.Node.{NodeView};
-    ghost use Rattle.node_laws.specs.Kept.{IsKept};
+    ghost use Rattle.node_sides.specs.system_txn.specs.SystemView.{pages_code};
+    ghost use Rattle.node_sides.specs.node_laws.specs.Node.{NodeView};
+    ghost use Rattle.node_sides.specs.node_laws.specs.Kept.{IsKept};
     ghost use Rattle.world.specs.Seen.{seen};
 
     ghost Value = { NodeView };

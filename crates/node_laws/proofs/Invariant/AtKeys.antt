@@ -8,7 +8,7 @@ use Rattle.btree.specs.Leaves.{leaf_at}
 use Rattle.btree.proofs.AtKey.{all_at, within_at}
 use Rattle.page.specs.Honest.{IsHonestLeaf}
 use Rattle.recovery_laws.specs.Ready.{IsLow}
-use Rattle.system_txn.specs.Checked.{IsChecked}
+use Rattle.dc_core.specs.system_txn.specs.Checked.{IsChecked}
 use Rattle.dc_core.specs.DcView.{leaves, captures_at, value_at}
 use Rattle.node_laws.specs.Node.{NodeView}
 use Rattle.dc_core.specs.Tends.{may_merge}

@@ -14,7 +14,7 @@ use Rattle.page.specs.Honest.{IsSavedRight, IsHonestLeaf}
 use Rattle.page.specs.Tops.{is_within}
 use Rattle.page.proofs.UpTo.{AreUpTo, none_above}
 use Rattle.recovery_laws.specs.Ready.{IsHonestTo}
-use Rattle.system_txn.proofs.Replacing.{up_to_top}
+use Rattle.dc_core.specs.system_txn.proofs.Replacing.{up_to_top}
 use Rattle.node_laws.specs.Kept.{IsLowAnswered}
 use Rattle.node_laws.specs.Source.{Source}
 use Rattle.node_laws.proofs.Invariant.Announced.{most_sure}

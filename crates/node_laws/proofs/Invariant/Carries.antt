@@ -13,8 +13,8 @@ use Rattle.codec.specs.declared.request.Request.{Request}
 use Rattle.codec.specs.declared.request.Request.TheVariants as asks
 use Rattle.codec.specs.declared.reply.Reply.{Reply}
 use Rattle.codec.specs.declared.reply.Reply.TheVariants as says
-use Rattle.system_txn.specs.Kept.{IsRecoverable}
-use Rattle.system_txn.specs.Checked.{Checks}
+use Rattle.dc_core.specs.system_txn.specs.Kept.{IsRecoverable}
+use Rattle.dc_core.specs.system_txn.specs.Checked.{Checks}
 use Rattle.dc_core.specs.declared.performance.Performance.{Performance}
 use Rattle.dc_core.specs.DcView.{DcView, captures_at}
 use Rattle.dc_core.specs.Serves.{runs}

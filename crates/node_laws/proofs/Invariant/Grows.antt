@@ -26,9 +26,9 @@ use Rattle.codec.specs.declared.reply.Reply.{Reply}
 use Rattle.codec.specs.declared.reply.Reply.TheVariants as says
 use Rattle.page.specs.Leaf.{LeafView}
 use Rattle.recovery_laws.specs.Ready.{IsHonestTo}
-use Rattle.system_txn.specs.SystemView.{SystemView}
-use Rattle.system_txn.specs.Devices.{pages_of}
-use Rattle.system_txn.specs.Checked.{IsChecked}
+use Rattle.dc_core.specs.system_txn.specs.SystemView.{SystemView}
+use Rattle.dc_core.specs.system_txn.specs.Devices.{pages_of}
+use Rattle.dc_core.specs.system_txn.specs.Checked.{IsChecked}
 use Rattle.dc_core.specs.declared.performance.Performance.{Performance}
 use Rattle.page.specs.Honest.{IsHonestLeaf}
 use Rattle.page.proofs.Honest.{right_longer, honest_uncaptured}

@@ -14,8 +14,8 @@ use Rattle.page.proofs.Performing.{one_request, right_answer, honest_performed}
 use Rattle.btree.specs.Leaves.{leaf_at}
 use Rattle.btree.proofs.AtKey.{within_at, captured_performed, captured_not_performed}
 use Rattle.btree.proofs.Changing.{all_changed}
-use Rattle.system_txn.specs.Kept.{IsRecoverable}
-use Rattle.system_txn.specs.Checked.{Checks}
+use Rattle.dc_core.specs.system_txn.specs.Kept.{IsRecoverable}
+use Rattle.dc_core.specs.system_txn.specs.Checked.{Checks}
 use Rattle.dc_core.specs.DcView.{DcView, leaves, captures_at}
 use Rattle.dc_core.specs.Serves.{performs, knows, runs}
 use Rattle.dc_core.specs.Kept.{IsDc}

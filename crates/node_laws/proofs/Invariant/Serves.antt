@@ -22,16 +22,16 @@ use Rattle.ab_lsn.specs.AbLsn.{saved_in}
 use Rattle.btree.specs.Leaves.{leaf_at, rows_of}
 use Rattle.btree.proofs.Together.{one_table}
 use Rattle.recovery_laws.specs.Recovery.{stored_session}
-use Rattle.system_txn.specs.Kept.{IsRecoverable}
-use Rattle.system_txn.specs.Checked.{Checks, IsChecked}
-use Rattle.system_txn.specs.SystemView.{SystemView, log_refused}
-use Rattle.system_txn.specs.Changes.{lowered, accepted, taken_back, written_all}
+use Rattle.dc_core.specs.system_txn.specs.Kept.{IsRecoverable}
+use Rattle.dc_core.specs.system_txn.specs.Checked.{Checks, IsChecked}
+use Rattle.dc_core.specs.system_txn.specs.SystemView.{SystemView, log_refused}
+use Rattle.dc_core.specs.system_txn.specs.Changes.{lowered, accepted, taken_back, written_all}
 use Rattle.page.specs.Honest.{IsHonestLeaf}
 use Rattle.page.specs.TakingBack.{taken_back as leaf_taken_back}
 use Rattle.page.specs.Tops.{all_within}
 use Rattle.btree.proofs.Changing.{all_mapped}
 use Rattle.logical_log.specs.LogView.{last_not_session}
-use Rattle.system_txn.specs.Gives.{HaveImages, CheckpointGives, StopsCheckpoint, AcceptGives}
+use Rattle.dc_core.specs.system_txn.specs.Gives.{HaveImages, CheckpointGives, StopsCheckpoint, AcceptGives}
 use Rattle.dc_core.specs.DcView.{DcView, leaves, captures_at, value_at}
 use Rattle.dc_core.specs.Kept.{IsDc}
 use Rattle.dc_core.specs.Serves.{Serves, ServeGives, Stops, StopsUnless, serve_refusal, runs, with_system, connected, knows, performs, lowers, range}

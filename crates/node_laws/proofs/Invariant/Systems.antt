@@ -9,9 +9,9 @@ use Rattle.ab_lsn.specs.AbLsn.{captures}
 use Rattle.page.specs.Leaf.{LeafView}
 use Rattle.btree.specs.Leaves.{leaf_at}
 use Rattle.recovery_laws.specs.Recovery.{stored_session}
-use Rattle.system_txn.specs.SystemView.{SystemView}
-use Rattle.system_txn.specs.Kept.{IsRecoverable}
-use Rattle.system_txn.specs.Checked.{Checks}
+use Rattle.dc_core.specs.system_txn.specs.SystemView.{SystemView}
+use Rattle.dc_core.specs.system_txn.specs.Kept.{IsRecoverable}
+use Rattle.dc_core.specs.system_txn.specs.Checked.{Checks}
 use Rattle.dc_core.specs.Serves.{with_system}
 use Rattle.dc_core.specs.Kept.{IsDc}
 use Rattle.node_laws.specs.Node.{NodeView}

@@ -5,16 +5,16 @@ use Rattle.record_key.specs.declared.refusal.Refusal.{Refusal}
 use Rattle.record_key.specs.Table.{Bytes}
 use Rattle.btree.specs.Leaves.{leaf_at}
 use Rattle.recovery_laws.specs.Recovery.{stored_session}
-use Rattle.system_txn.specs.Kept.{IsRecoverable}
-use Rattle.system_txn.specs.Checked.{Checks}
+use Rattle.dc_core.specs.system_txn.specs.Kept.{IsRecoverable}
+use Rattle.dc_core.specs.system_txn.specs.Checked.{Checks}
 use Rattle.framed_log.specs.Refused.{refused_use}
-use Rattle.system_txn.specs.SystemView.{SystemView, log_refused}
-use Rattle.system_txn.specs.Changes.{split_to, merged_to, written_to, first_large, first_pair}
-use Rattle.system_txn.specs.Gives.{SplitsWithin, MergesWithin, SplitGives, MergeGives, TendGives, FlushGives, StopsWriting, tending}
-use Rattle.system_txn.specs.declared.tended.Neighbours.{Neighbours}
-use Rattle.system_txn.specs.declared.tended.Tended.{Tended}
-use Rattle.system_txn.specs.declared.tended.Tended.TheVariants as tended
-use Rattle.system_txn.specs.Gives as gives
+use Rattle.dc_core.specs.system_txn.specs.SystemView.{SystemView, log_refused}
+use Rattle.dc_core.specs.system_txn.specs.Changes.{split_to, merged_to, written_to, first_large, first_pair}
+use Rattle.dc_core.specs.system_txn.specs.Gives.{SplitsWithin, MergesWithin, SplitGives, MergeGives, TendGives, FlushGives, StopsWriting, tending}
+use Rattle.dc_core.specs.system_txn.specs.declared.tended.Neighbours.{Neighbours}
+use Rattle.dc_core.specs.system_txn.specs.declared.tended.Tended.{Tended}
+use Rattle.dc_core.specs.system_txn.specs.declared.tended.Tended.TheVariants as tended
+use Rattle.dc_core.specs.system_txn.specs.Gives as gives
 use Rattle.std.proofs.lemmas.Bool.{cases_Bool, MatchBool-at_true, MatchBool-at_false}
 use Rattle.page.specs.Leaf.{LeafView}
 use Rattle.page.specs.Tops.{is_within}

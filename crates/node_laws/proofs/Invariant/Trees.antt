@@ -32,9 +32,9 @@ use Rattle.recovery_laws.specs.Ready.{IsHonestTo, AllHave}
 use Rattle.recovery_laws.specs.Recovery.{Pages}
 use Rattle.recovery_laws.proofs.Images.{leaf_again}
 use Rattle.recovery_laws.proofs.Honesty.{captures_fewer}
-use Rattle.system_txn.specs.SystemView.{SystemView}
-use Rattle.system_txn.specs.Devices.{pages_of}
-use Rattle.system_txn.specs.Changes.{next_id, next_number, split_to, merged_to, lowered}
+use Rattle.dc_core.specs.system_txn.specs.SystemView.{SystemView}
+use Rattle.dc_core.specs.system_txn.specs.Devices.{pages_of}
+use Rattle.dc_core.specs.system_txn.specs.Changes.{next_id, next_number, split_to, merged_to, lowered}
 use Rattle.dc_core.specs.DcView.{leaves}
 use Rattle.dc_core.proofs.KeepsDc.{all_both}
 use Rattle.node_laws.specs.Node.{NodeView}

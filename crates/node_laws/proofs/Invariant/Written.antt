@@ -13,11 +13,11 @@ use Rattle.recovery_laws.specs.Laws.{leaf_in}
 use Rattle.recovery_laws.specs.Ready.{AllHave, IsHonestTo}
 use Rattle.record_key.proofs.Lists.{all_from}
 use Rattle.stable.specs.Usage.{Usage, failed}
-use Rattle.system_txn.specs.SystemView.{SystemView}
-use Rattle.system_txn.specs.Devices.{pages_of}
-use Rattle.system_txn.specs.Changes.{covered, forced, written_to, written_all}
-use Rattle.system_txn.specs.Gives.{HaveImages, StopsWriting, FailsWriting, FailsAmong}
-use Rattle.system_txn.proofs.Written.{pages_written}
+use Rattle.dc_core.specs.system_txn.specs.SystemView.{SystemView}
+use Rattle.dc_core.specs.system_txn.specs.Devices.{pages_of}
+use Rattle.dc_core.specs.system_txn.specs.Changes.{covered, forced, written_to, written_all}
+use Rattle.dc_core.specs.system_txn.specs.Gives.{HaveImages, StopsWriting, FailsWriting, FailsAmong}
+use Rattle.dc_core.specs.system_txn.proofs.Written.{pages_written}
 use Rattle.tc_core.specs.TcView.{TcView}
 use Rattle.node_laws.specs.Kept.{IsTrueTo, IsLowAnswered}
 use Rattle.node_laws.specs.Source.{Source}

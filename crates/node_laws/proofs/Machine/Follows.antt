@@ -26,7 +26,7 @@ use Rattle.tc_core.specs.declared.open_txn.Rollback.{Rollback}
 use Rattle.tc_core.specs.declared.told.UndoStep.{UndoStep}
 use Rattle.tc_core.specs.declared.told.UndoStep.TheVariants as undo
 use Rattle.logical_log.specs.LogView.{is_spent, spent_refusal}
-use Rattle.system_txn.specs.Checked.{IsChecked}
+use Rattle.dc_core.specs.system_txn.specs.Checked.{IsChecked}
 use Rattle.tc_core.specs.OpenTxns.{find, replace}
 use Rattle.stable.specs.Usage.{Usage, failed}
 use Rattle.tc_core.specs.TcView.{TcView, used_so}

@@ -16,8 +16,8 @@ use Rattle.ab_lsn.specs.AbLsn.{captures}
 use Rattle.page.specs.Leaf.{LeafView, first}
 use Rattle.recovery_laws.specs.Ready.{IsHonestTo}
 use Rattle.stable.specs.Usage.{Usage}
-use Rattle.system_txn.specs.Devices.{pages_of}
-use Rattle.system_txn.proofs.Recoverable.{recoverable_fresh}
+use Rattle.dc_core.specs.system_txn.specs.Devices.{pages_of}
+use Rattle.dc_core.specs.system_txn.proofs.Recoverable.{recoverable_fresh}
 use Rattle.dc_core.specs.DcView.{fresh_dc}
 use Rattle.dc_core.specs.Kept.{IsDc}
 use Rattle.dc_core.proofs.Checked.{fresh_checked}

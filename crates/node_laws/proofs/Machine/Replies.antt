@@ -28,7 +28,7 @@ use Rattle.tc_core.specs.declared.told.Told.TheVariants as told
 use Rattle.logical_log.specs.LogView.{is_spent}
 use Rattle.tc_core.specs.OpenTxns.{find}
 use Rattle.tc_core.specs.TcView.{TcView, is_none_lost, is_serving}
-use Rattle.system_txn.specs.Checked.{IsChecked}
+use Rattle.dc_core.specs.system_txn.specs.Checked.{IsChecked}
 use Rattle.tc_core.specs.Changes.{answered, answered_txn, answered_lost, was_told, told_txn, checkpointed, undoing_or_running}
 use Rattle.tc_core.specs.Replies.{Outcome, takes, awaiting, lacks, told_lost, next_phase, passed, on_awaited, on_answered, on_connected, on_redo_ended, on_checkpointed, on_reply, on_row, on_rows, is_number, is_key, is_range, span_read, reader, logs, reply_refusal}
 use Rattle.tc_core.specs.Kept.{IsTc, IsPhase, IsOwedAnswer}

@@ -16,12 +16,12 @@ use Rattle.recovery_laws.specs.Ready.{IsHonestTo}
 use Rattle.framed_log.proofs.Beginning.{twice, of_beginning}
 use Rattle.recovery_laws.proofs.Honesty.{captures_fewer, cuts_keep_honest}
 use Rattle.ab_lsn.specs.Parting.{is_under}
-use Rattle.system_txn.specs.SystemView.{SystemView}
-use Rattle.system_txn.specs.Devices.{pages_of}
-use Rattle.system_txn.specs.Kept.{IsSystem}
-use Rattle.system_txn.specs.Crashed.{crashed}
-use Rattle.system_txn.proofs.AfterCrash.{all_recovered, have_beginning, crashed_kept, crashed_recoverable}
-use Rattle.system_txn.proofs.Checked.{crashed_checked}
+use Rattle.dc_core.specs.system_txn.specs.SystemView.{SystemView}
+use Rattle.dc_core.specs.system_txn.specs.Devices.{pages_of}
+use Rattle.dc_core.specs.system_txn.specs.Kept.{IsSystem}
+use Rattle.dc_core.specs.system_txn.specs.Crashed.{crashed}
+use Rattle.dc_core.specs.system_txn.proofs.AfterCrash.{all_recovered, have_beginning, crashed_kept, crashed_recoverable}
+use Rattle.dc_core.specs.system_txn.proofs.Checked.{crashed_checked}
 use Rattle.dc_core.specs.DcView.{DcView, leaves, top_of}
 use Rattle.dc_core.specs.Kept.{IsDc}
 use Rattle.dc_core.specs.Restarting.{restarted}

@@ -21,9 +21,9 @@ use Rattle.record_key.proofs.Lists.{all_from}
 use Rattle.recovery_laws.specs.Recovery.{stored_session}
 use Rattle.recovery_laws.specs.Ready.{IsHonestTo, IsLow}
 use Rattle.recovery_laws.proofs.Ready.{ready_too}
-use Rattle.system_txn.specs.SystemView.{SystemView}
-use Rattle.system_txn.specs.Devices.{pages_of}
-use Rattle.system_txn.specs.Checked.{IsChecked}
+use Rattle.dc_core.specs.system_txn.specs.SystemView.{SystemView}
+use Rattle.dc_core.specs.system_txn.specs.Devices.{pages_of}
+use Rattle.dc_core.specs.system_txn.specs.Checked.{IsChecked}
 use Rattle.dc_core.specs.DcView.{DcView}
 use Rattle.tc_core.specs.declared.phase.Phase.{Phase}
 use Rattle.tc_core.specs.TcView.{TcView}

@@ -14,7 +14,7 @@ use Rattle.log_laws.proofs.LegalLogs.{begun_number}
 use Rattle.log_laws.proofs.Records.{within}
 use Rattle.framed_log.specs.Beginning.{beginning}
 use Rattle.range_locks.specs.Locks.{spans_of}
-use Rattle.restart.specs.Losers.{txns, IsLoser}
+use Rattle.tc_core.specs.restart.specs.Losers.{txns, IsLoser}
 use Rattle.simulation.specs.View.{View, StandsFor, is_begin, is_left_open, opened}
 use Rattle.simulation.specs.Running.{LeadsOn as LeadsTo}
 use Rattle.simulation.specs.Views.{IsUncommitting}

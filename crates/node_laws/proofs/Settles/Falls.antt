@@ -25,7 +25,7 @@ use Rattle.tc_core.specs.declared.phase.Phase.{Phase}
 use Rattle.tc_core.specs.declared.phase.Phase.TheVariants as phase
 use Rattle.tc_core.specs.declared.told.Told.TheVariants as told
 use Rattle.tc_core.specs.OpenTxns.{find}
-use Rattle.restart.specs.Losers.{LosersView}
+use Rattle.tc_core.specs.restart.specs.Losers.{LosersView}
 use Rattle.tc_core.specs.TcView.{TcView, is_none_lost, is_running}
 use Rattle.tc_core.specs.Changes.{reconnected, forced, undoing_or_running}
 use Rattle.tc_core.specs.Calls.{read_request}

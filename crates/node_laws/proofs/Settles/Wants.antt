@@ -20,7 +20,7 @@ use Rattle.tc_core.specs.declared.open_txn.OpenTxn.{OpenTxn}
 use Rattle.tc_core.specs.declared.phase.Phase.{Phase}
 use Rattle.tc_core.specs.declared.phase.Phase.TheVariants as phase
 use Rattle.logical_log.specs.LogView.{is_spent as log_is_spent, last_not_session}
-use Rattle.system_txn.specs.Gives.{is_spent}
+use Rattle.dc_core.specs.system_txn.specs.Gives.{is_spent}
 use Rattle.tc_core.specs.TcView.{TcView, is_waiting, waits}
 use Rattle.tc_core.specs.Causes.{resend_refusal, undo_refusal, undo_logs}
 use Rattle.tc_core.specs.OpenTxns.{find}

@@ -1,5 +1,5 @@
 use Rattle.std.proofs.Common.{List, ℕ, Option, subst}
-use Rattle.node_laws.specs.Node.{NodeView}
+use Rattle.world.specs.node_laws.specs.Node.{NodeView}
 use Rattle.node_shell.specs.Labels.{Bindings, bound_number}
 use Rattle.node_shell.specs.Text.{WritesTextFrom}
 use Rattle.node_shell.proofs.Running.{on_new, unmade}

@@ -6,7 +6,7 @@ use Rattle.history.specs.History.{plain}
 use Rattle.history.specs.ListMachine.{is_live}
 use Rattle.log_rewriting.specs.Written.{written, count_with}
 use Rattle.btree.specs.Leaves.{rows_of}
-use Rattle.dc_core.specs.DcView.{leaves}
+use Rattle.world.specs.dc_core.specs.DcView.{leaves}
 use Rattle.simulation.specs.Reading.{machine_read, txn_read}
 use Rattle.world.specs.Quiet.{IsQuiet}
 use Rattle.node_store.proofs.Renewed.{tells, same_log, is_refused, refused_as}

@@ -1,5 +1,5 @@
 use denote.Param.Send.{sendable}
-use Rattle.pool_sessions.proofs.Sharing.{both, session_send}
+use Rattle.worker_pool.specs.pool_sessions.proofs.Sharing.{both, session_send}
 use Rattle.pool_shell.proofs.Sharing.{ended_send, holding_send}
 use Rattle.pool_shell.proofs.clients.start.Goals as goal
 

@@ -1,7 +1,7 @@
 use Rattle.std.proofs.Common.{◌≡◌, ◌∙◌, ℕ, zero, suc, [], ◌∷◌, ap, arith, length, length-append, refl, sym, vec_len}
 use Rattle.std.proofs.lemmas.List.{length-map}
 use Rattle.std.proofs.lemmas.Grind.{common_steps}
-use Rattle.pool_journal.specs.Callers.{SessionView}
+use Rattle.worker_pool.specs.pool_journal.specs.Callers.{SessionView}
 use Rattle.worker_pool.specs.Closing.{below}
 use Rattle.pool_shell.proofs.pool_run.play_out.Goals as goal
 

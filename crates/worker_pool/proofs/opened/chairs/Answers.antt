@@ -4,7 +4,7 @@ use Rattle.std.specs.List.{AllByRecursion}
 use Rattle.marks.specs.Seen.{Seen, reader}
 use Rattle.worker_pool.specs.declared.opened.Chair.{Chair}
 use Rattle.worker_pool.specs.Opened.{ReadsMarks}
-use Rattle.pool_journal.proofs.Lists.{all_snoc}
+use Rattle.pool_sessions.specs.pool_journal.proofs.Lists.{all_snoc}
 use Rattle.worker_pool.proofs.Opening.{all_first}
 use Rattle.worker_pool.proofs.opened.chairs.Goals as goal
 

@@ -2,12 +2,12 @@ use Rattle.std.proofs.Common.{ℕ, List, [], ◌∷◌, length, ap, sym, ◌∙�
 use Rattle.std.proofs.lemmas.List.{length-append, map-append}
 use Rattle.std.specs.List.{AllByRecursion}
 use Rattle.worker_pool.specs.declared.opened.Chair.{Chair}
-use Rattle.pool_journal.specs.declared.place.Place.{Place}
+use Rattle.pool_sessions.specs.pool_journal.specs.declared.place.Place.{Place}
 use Rattle.worker_pool.specs.declared.seated.Sitter.{Sitter}
 use Rattle.worker_pool.specs.Closing.{IsSeated, numbers_in}
-use Rattle.pool_journal.specs.Kept.{PlaceKept, PlacesKept}
+use Rattle.pool_sessions.specs.pool_journal.specs.Kept.{PlaceKept, PlacesKept}
 use Rattle.worker_pool.specs.Opened.{ReadsMarks, ties_of}
-use Rattle.pool_journal.proofs.Lists.{all_snoc}
+use Rattle.pool_sessions.specs.pool_journal.proofs.Lists.{all_snoc}
 use Rattle.worker_pool.proofs.Opening.{TiedFrom, below_more, places_snoc, tied_first, tied_rest}
 use Rattle.worker_pool.proofs.seated.seat_all.Goals as goal
 

@@ -1,7 +1,7 @@
 use Rattle.std.proofs.Common.{◌≡◌, ◌∙◌, length, vec_len, arith}
 use Rattle.std.proofs.lemmas.Grind.{common_steps}
-use Rattle.node_laws.specs.Rounds.{Performed, Stopped, events_of}
-use Rattle.node_laws.proofs.Settles.RoundsLeft.{rounds_bound}
+use Rattle.node_sides.specs.node_laws.specs.Rounds.{Performed, Stopped, events_of}
+use Rattle.node_sides.specs.node_laws.proofs.Settles.RoundsLeft.{rounds_bound}
 use Rattle.world.proofs.BringingUp.{at_rest, eased_left, none_yet, one_eased, performed_by, refused, stopped, stopped_by, telling_left}
 use Rattle.world.proofs.bringing_up.bring_up.Goals as goal
 

@@ -1,5 +1,5 @@
-use Rattle.node_laws.specs.Bound.{rounds_left}
-use Rattle.node_laws.specs.Kept.{IsKept}
+use Rattle.node_sides.specs.node_laws.specs.Bound.{rounds_left}
+use Rattle.node_sides.specs.node_laws.specs.Kept.{IsKept}
 use Rattle.world.proofs.BringingUp.{EasedSoFar}
 use Rattle.world.proofs.bringing_up.bring_up.Given as goal
 

@@ -1,5 +1,5 @@
 use Rattle.std.proofs.Common.{refl, arith}
-use Rattle.node_laws.proofs.Machine.Headline.{leads_more, chain_more}
+use Rattle.node_sides.specs.node_laws.proofs.Machine.Headline.{leads_more, chain_more}
 use Rattle.world.proofs.driving.drive.Goals as goal
 
 pub loop-event-init : goal.loop-event-init

@@ -1,7 +1,7 @@
 use Rattle.std.proofs.Common.{◌≡◌, ◌≤◌, length, take, vec_len}
 use Rattle.std.specs.Vec.{vec_capacity}
-use Rattle.node_laws.specs.Stepping.{Chain}
-use Rattle.node_laws.specs.Simulation.{LeadsAll}
+use Rattle.node_sides.specs.node_laws.specs.Stepping.{Chain}
+use Rattle.node_sides.specs.node_laws.specs.Simulation.{LeadsAll}
 use Rattle.world.proofs.driving.drive.Given as goal
 
 -- the events so far are a chain and a run, and there is room for the outputs of the rest

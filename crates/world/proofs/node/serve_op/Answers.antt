@@ -1,7 +1,7 @@
 use Rattle.std.proofs.Common.{◌∙◌, ◌∷◌, ◌++◌, [], List, ap}
 use Rattle.codec.specs.declared.reply.Reply.{Reply}
 use Rattle.codec.specs.Parted.{request_to}
-use Rattle.dc_core.specs.Performing.{reply_with}
+use Rattle.node_sides.specs.dc_core.specs.Performing.{reply_with}
 use Rattle.record_key.specs.Lent.{op_lent}
 use Rattle.world.specs.Sent.{SentView, told_last}
 use Rattle.world.proofs.Serving.{served, also_answered}

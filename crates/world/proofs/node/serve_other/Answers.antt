@@ -1,8 +1,8 @@
 use Rattle.std.proofs.Common.{◌≡◌, ◌∙◌, ◌∷◌, ◌++◌, [], List, Option, ap, subst, true, None, Some}
 use Rattle.codec.specs.declared.reply.Reply.{Reply}
 use Rattle.codec.specs.Replies.{has_rows}
-use Rattle.node_laws.specs.Halves.{DcServes}
-use Rattle.node_laws.proofs.Halves.{roomy, unroomed}
+use Rattle.node_sides.specs.node_laws.specs.Halves.{DcServes}
+use Rattle.node_sides.specs.node_laws.proofs.Halves.{roomy, unroomed}
 use Rattle.world.proofs.Serving.{served}
 use Rattle.world.proofs.node.serve_other.Goals as goal
 

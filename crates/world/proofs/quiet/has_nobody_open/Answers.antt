@@ -1,10 +1,10 @@
 use Rattle.std.proofs.Common.{◌≡◌, ◌∙◌, ℕ, ◌+◌, ◌<◌, List, [], ◌∷◌, length, Option, Some, None, refl, sym, ap, subst, arith, below_more}
-use Rattle.tc_core.specs.declared.open_txn.OpenTxn.{OpenTxn}
-use Rattle.tc_core.specs.Kept.{IsTc}
-use Rattle.tc_core.specs.OpenTxns.{AreBelow, find}
-use Rattle.tc_core.specs.TcView.{TcView}
-use Rattle.tc_core.proofs.Finding.{find_here}
-use Rattle.tc_core.proofs.KeepsTc.{all_below}
+use Rattle.node_sides.specs.tc_core.specs.declared.open_txn.OpenTxn.{OpenTxn}
+use Rattle.node_sides.specs.tc_core.specs.Kept.{IsTc}
+use Rattle.node_sides.specs.tc_core.specs.OpenTxns.{AreBelow, find}
+use Rattle.node_sides.specs.tc_core.specs.TcView.{TcView}
+use Rattle.node_sides.specs.tc_core.proofs.Finding.{find_here}
+use Rattle.node_sides.specs.tc_core.proofs.KeepsTc.{all_below}
 use Rattle.world.proofs.quiet.has_nobody_open.Goals as goal
 
 -- who is open has the number of a record

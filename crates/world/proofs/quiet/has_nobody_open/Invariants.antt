@@ -1,5 +1,5 @@
 use Rattle.std.proofs.Common.{◌≡◌, ℕ, ◌<◌, None}
-use Rattle.tc_core.specs.OpenTxns.{find}
+use Rattle.node_sides.specs.tc_core.specs.OpenTxns.{find}
 use Rattle.world.proofs.quiet.has_nobody_open.Given as goal
 
 abbrev pub invariant-loop-txn : goal.invariant-loop-txn

@@ -2,7 +2,7 @@ use Rattle.std.proofs.Common.{◌≡◌, ◌∙◌, ℕ, zero, suc, ◌-◌, ◌
 use Rattle.std.proofs.lemmas.Option.{slice_get-get_or, slice_get_past}
 use Rattle.codec.specs.FrameIndex.{place_at, places_of}
 use Rattle.codec.proofs.Indexed.{place_of, length-places_of}
-use Rattle.node_laws.specs.Messages.{message_at}
+use Rattle.node_sides.specs.node_laws.specs.Messages.{message_at}
 use Rattle.world.proofs.sent.place_of.Goals as goal
 use Rattle.world.proofs.sent.place_of.Goals.{then-number-eq0-via-then-number-eq0, then-number-eq0-via-else-number-eq0+then-number-len}
 

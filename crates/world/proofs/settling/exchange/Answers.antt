@@ -1,12 +1,12 @@
 use Rattle.std.proofs.Common.{◌≡◌, ◌∙◌, ℕ, ◌+◌, List, [], ◌∷◌, length, Result, Ok, Err, sym, subst}
 use Rattle.std.specs.Result.{IsErrAnd}
 use Rattle.record_key.specs.declared.refusal.Refusal.{Refusal}
-use Rattle.node_laws.specs.declared.event.Event.{Event}
-use Rattle.node_laws.specs.declared.event.Event.TheVariants as event
-use Rattle.node_laws.specs.declared.event.Out.{Out}
-use Rattle.node_laws.specs.Node.{NodeView}
-use Rattle.node_laws.specs.Rounds.{Performed, Stopped, Does, IsExchange, exchange}
-use Rattle.node_laws.proofs.Settles.Playing.{then_done, then_stopped, first_stopped, sent_number, replied_number}
+use Rattle.node_sides.specs.node_laws.specs.declared.event.Event.{Event}
+use Rattle.node_sides.specs.node_laws.specs.declared.event.Event.TheVariants as event
+use Rattle.node_sides.specs.node_laws.specs.declared.event.Out.{Out}
+use Rattle.node_sides.specs.node_laws.specs.Node.{NodeView}
+use Rattle.node_sides.specs.node_laws.specs.Rounds.{Performed, Stopped, Does, IsExchange, exchange}
+use Rattle.node_sides.specs.node_laws.proofs.Settles.Playing.{then_done, then_stopped, first_stopped, sent_number, replied_number}
 use Rattle.world.proofs.settling.exchange.Goals as goal
 
 -- the request was delivered or not, and then its reply

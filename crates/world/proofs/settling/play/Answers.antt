@@ -1,7 +1,7 @@
 use Rattle.std.proofs.Common.{subst}
-use Rattle.node_laws.specs.Rounds.{IsNextRound}
-use Rattle.node_laws.specs.declared.round.Round.TheVariants as round
-use Rattle.node_laws.proofs.Settles.Asking.{asks_connect, asks_recover, asks_send}
+use Rattle.node_sides.specs.node_laws.specs.Rounds.{IsNextRound}
+use Rattle.node_sides.specs.node_laws.specs.declared.round.Round.TheVariants as round
+use Rattle.node_sides.specs.node_laws.proofs.Settles.Asking.{asks_connect, asks_recover, asks_send}
 use Rattle.world.proofs.settling.play.Goals as goal
 
 pub exchange-requires : goal.exchange-requires

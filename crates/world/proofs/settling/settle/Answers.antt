@@ -3,13 +3,13 @@ use Rattle.std.specs.Prelude.{◌==◌}
 use Rattle.std.specs.Option.{option_eq}
 use Rattle.std.specs.Result.{IsErrAnd}
 use Rattle.record_key.specs.declared.refusal.Refusal.{Refusal}
-use Rattle.node_laws.specs.declared.event.Out.{Out}
-use Rattle.node_laws.specs.Node.{NodeView}
-use Rattle.node_laws.specs.Rounds.{IsNextRound, Settles}
-use Rattle.node_laws.proofs.Settles.RoundsLeft.{rounds_bound}
-use Rattle.node_laws.proofs.Settles.Falls.{falls, some_left}
-use Rattle.node_laws.proofs.Settles.Playing.{none_yet, one_more, all_played, allowed, broken}
-use Rattle.node_laws.proofs.Settles.Telling.{tells_rounds}
+use Rattle.node_sides.specs.node_laws.specs.declared.event.Out.{Out}
+use Rattle.node_sides.specs.node_laws.specs.Node.{NodeView}
+use Rattle.node_sides.specs.node_laws.specs.Rounds.{IsNextRound, Settles}
+use Rattle.node_sides.specs.node_laws.proofs.Settles.RoundsLeft.{rounds_bound}
+use Rattle.node_sides.specs.node_laws.proofs.Settles.Falls.{falls, some_left}
+use Rattle.node_sides.specs.node_laws.proofs.Settles.Playing.{none_yet, one_more, all_played, allowed, broken}
+use Rattle.node_sides.specs.node_laws.proofs.Settles.Telling.{tells_rounds}
 use Rattle.world.proofs.settling.settle.Goals as goal
 
 pub loop-round-init : goal.loop-round-init

@@ -1,6 +1,6 @@
-use Rattle.node_laws.specs.Kept.{IsKept}
-use Rattle.node_laws.specs.Bound.{rounds_left}
-use Rattle.node_laws.proofs.Settles.Playing.{SoFar}
+use Rattle.node_sides.specs.node_laws.specs.Kept.{IsKept}
+use Rattle.node_sides.specs.node_laws.specs.Bound.{rounds_left}
+use Rattle.node_sides.specs.node_laws.proofs.Settles.Playing.{SoFar}
 use Rattle.world.proofs.settling.settle.Given as goal
 
 abbrev pub invariant-loop-round : goal.invariant-loop-round

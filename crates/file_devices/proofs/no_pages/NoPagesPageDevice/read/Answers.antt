@@ -7,6 +7,7 @@ pub returns : goal.returns
 returns c = (
   (refl, λ _. tt, (refl, c.in_ok-call.ensures.used ∙ ap called c.self.view_is)),
   record {
+    set = rw (← c.self.view_is) c.in_ok-call.ensures.set;
     device = λ _. rw (← c.self.view_is) c.call.ensures.due;
     value = sym (get-empty nat_cmp c.args._id);
     no_memory = tt;

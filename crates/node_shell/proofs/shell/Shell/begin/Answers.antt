@@ -1,8 +1,8 @@
 use Rattle.std.proofs.Common.{rules, sym, subst}
-use Rattle.node_laws.specs.declared.event.Event.TheVariants as event
-use Rattle.node_laws.specs.declared.event.Out.TheVariants as out
-use Rattle.node_laws.specs.Node.{NodeView, StepsTo}
-use Rattle.node_laws.specs.Stepping.{IsStep}
+use Rattle.world.specs.node_laws.specs.declared.event.Event.TheVariants as event
+use Rattle.world.specs.node_laws.specs.declared.event.Out.TheVariants as out
+use Rattle.world.specs.node_laws.specs.Node.{NodeView, StepsTo}
+use Rattle.world.specs.node_laws.specs.Stepping.{IsStep}
 use Rattle.node_shell.proofs.Telling.{refused_step}
 use Rattle.node_shell.proofs.shell.Shell.begin.Goals as goal
 

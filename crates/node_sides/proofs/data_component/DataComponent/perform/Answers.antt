@@ -3,8 +3,8 @@ use Rattle.std.specs.Prelude.{Ok, Result}
 use Rattle.record_key.specs.Lent.{op_lent}
 use Rattle.record_key.specs.declared.refusal.Refusal.{Refusal}
 use Rattle.codec.specs.Parted.{request_to}
-use Rattle.dc_core.specs.Performing.{replied, reply_with}
-use Rattle.dc_core.specs.Serves.{ServeGives}
+use Rattle.node_laws.specs.dc_core.specs.Performing.{replied, reply_with}
+use Rattle.node_laws.specs.dc_core.specs.Serves.{ServeGives}
 use Rattle.node_laws.proofs.Invariant.Spellable.{reply_ordered}
 use Rattle.node_sides.proofs.data_component.DataComponent.perform.Goals as goal
 

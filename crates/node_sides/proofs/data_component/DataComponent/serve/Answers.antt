@@ -1,7 +1,7 @@
 use Rattle.std.proofs.Common.{◌≡◌, ◌∙◌, subst, rules, Option, Some}
 use Rattle.std.specs.Prelude.{Ok}
 use Rattle.codec.specs.declared.reply.Reply.{Reply}
-use Rattle.dc_core.specs.Serves.{ServeGives}
+use Rattle.node_laws.specs.dc_core.specs.Serves.{ServeGives}
 use Rattle.node_laws.proofs.Halves.{replies_then}
 use Rattle.node_laws.proofs.Invariant.Spellable.{reply_ordered}
 use Rattle.node_sides.proofs.data_component.DataComponent.serve.Goals as goal

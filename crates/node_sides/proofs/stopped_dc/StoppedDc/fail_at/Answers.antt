@@ -1,8 +1,8 @@
 use Rattle.std.proofs.Common.{sym, subst}
 use Rattle.stable.specs.Usage.{Usage, failing_in}
 use Rattle.stable.specs.PagesState.{Pages}
-use Rattle.dc_core.specs.Kept.{IsDc}
-use Rattle.dc_core.proofs.KeepsSystems.{usage_keeps}
+use Rattle.node_laws.specs.dc_core.specs.Kept.{IsDc}
+use Rattle.node_laws.specs.dc_core.proofs.KeepsSystems.{usage_keeps}
 use Rattle.node_laws.specs.Component.{found_on}
 use Rattle.node_sides.proofs.stopped_dc.StoppedDc.fail_at.Goals as goal
 

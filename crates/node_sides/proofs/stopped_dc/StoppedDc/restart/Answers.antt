@@ -1,6 +1,6 @@
 use Rattle.std.proofs.Common.{sym, subst}
-use Rattle.system_txn.specs.Kept.{IsRecoverable}
-use Rattle.dc_core.specs.DcView.{DcView}
+use Rattle.node_laws.specs.system_txn.specs.Kept.{IsRecoverable}
+use Rattle.node_laws.specs.dc_core.specs.DcView.{DcView}
 use Rattle.node_laws.specs.Component.{found_on, IsUp, IsDownWith}
 use Rattle.node_laws.proofs.Restarts.Downs.{opened_is, down_with, down_kept}
 use Rattle.node_sides.proofs.stopped_dc.StoppedDc.restart.Goals as goal

@@ -1,6 +1,6 @@
 use Rattle.std.proofs.Common.{arith, subst}
-use Rattle.tc_core.specs.Kept.{IsTc}
-use Rattle.tc_core.proofs.OpenedLog.{opened_kept}
+use Rattle.node_laws.specs.tc_core.specs.Kept.{IsTc}
+use Rattle.node_laws.specs.tc_core.proofs.OpenedLog.{opened_kept}
 use Rattle.node_sides.proofs.stopped_tc.StoppedTc.kept.Goals as goal
 
 pub returns : goal.returns

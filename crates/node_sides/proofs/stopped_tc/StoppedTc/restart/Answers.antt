@@ -1,9 +1,9 @@
 use Rattle.std.proofs.Common.{◌∙◌, ap, sym, subst}
 use Rattle.logical_log.proofs.Crashed.{never_bad}
 use Rattle.logical_log.specs.Opening.{IsLogOf, UsedToOpen}
-use Rattle.tc_core.specs.TcView.{TcView, used_so}
-use Rattle.tc_core.specs.Opened.{IsOpenedAgain}
-use Rattle.tc_core.proofs.CrashedTc.{opens_again}
+use Rattle.node_laws.specs.tc_core.specs.TcView.{TcView, used_so}
+use Rattle.node_laws.specs.tc_core.specs.Opened.{IsOpenedAgain}
+use Rattle.node_laws.specs.tc_core.proofs.CrashedTc.{opens_again}
 use Rattle.node_laws.proofs.Restarts.TcDowns.{tc_unopened}
 use Rattle.node_sides.proofs.stopped_tc.StoppedTc.restart.Goals as goal
 

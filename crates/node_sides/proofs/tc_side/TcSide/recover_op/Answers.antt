@@ -1,7 +1,7 @@
 use Rattle.std.proofs.Common.{◌≡◌, ℕ, true, sym, subst}
 use Rattle.std.specs.Prelude.{IfNone}
-use Rattle.tc_core.specs.Recovery.{SendsOp}
-use Rattle.tc_core.specs.TcView.{TcView}
+use Rattle.node_laws.specs.tc_core.specs.Recovery.{SendsOp}
+use Rattle.node_laws.specs.tc_core.specs.TcView.{TcView}
 use Rattle.node_laws.specs.Component.{TcSide}
 use Rattle.node_sides.specs.Seen.{tc_in}
 use Rattle.node_sides.proofs.tc_side.TcSide.recover_op.Goals as goal

@@ -1,8 +1,8 @@
 use Rattle.std.proofs.Common.{◌≡◌, ◌∙◌, ap, subst, rules, Some}
 use Rattle.std.specs.Prelude.{Ok}
-use Rattle.tc_core.specs.declared.told.RecoverStep.{RecoverStep}
-use Rattle.tc_core.specs.declared.told.RecoverStep.TheVariants as step
-use Rattle.tc_core.specs.Recovery.{RecoverGives}
+use Rattle.node_laws.specs.tc_core.specs.declared.told.RecoverStep.{RecoverStep}
+use Rattle.node_laws.specs.tc_core.specs.declared.told.RecoverStep.TheVariants as step
+use Rattle.node_laws.specs.tc_core.specs.Recovery.{RecoverGives}
 use Rattle.node_laws.specs.Node.{sends_at}
 use Rattle.node_laws.proofs.Halves.{sends_then}
 use Rattle.node_laws.proofs.Invariant.Spellable.{recover_numbers}

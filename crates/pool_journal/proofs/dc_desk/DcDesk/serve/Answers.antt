@@ -1,8 +1,8 @@
 use Rattle.std.specs.Option.{option_copied}
 use Rattle.std.proofs.Common.{◌≡◌, ap, ◌∙◌, subst, sym}
 use Rattle.pool_journal.specs.declared.entry.Entry.{Entry}
-use Rattle.node_laws.specs.Halves.{IsSpelledIf, IsInNode}
-use Rattle.node_laws.specs.declared.event.Event.TheVariants as event
+use Rattle.node_sides.specs.node_laws.specs.Halves.{IsSpelledIf, IsInNode}
+use Rattle.node_sides.specs.node_laws.specs.declared.event.Event.TheVariants as event
 use Rattle.pool_journal.specs.Kept.{IsSentBy, is_dc}
 use Rattle.pool_journal.specs.Steps.{requests}
 use Rattle.pool_journal.specs.Views.{View, Sees}

@@ -1,5 +1,5 @@
 use Rattle.std.proofs.Common.{◌≡◌, None, ap, sym, ◌∙◌, List, subst}
-use Rattle.node_laws.specs.Messages.{message_at}
+use Rattle.node_sides.specs.node_laws.specs.Messages.{message_at}
 use Rattle.pool_journal.specs.declared.step.Step.{Step}
 use Rattle.pool_journal.specs.Kept.{IsSentBy}
 use Rattle.pool_journal.specs.Slots.{Slot}

@@ -1,7 +1,7 @@
 use Rattle.std.proofs.Common.{◌≡◌, List, Some, None, ap, sym, ◌∙◌, subst, slice_get}
 use Rattle.std.proofs.lemmas.Option.{slice_get-map}
 use Rattle.std.specs.Prelude.{option_map}
-use Rattle.dc_core.proofs.Walks.{all_get}
+use Rattle.node_sides.specs.dc_core.proofs.Walks.{all_get}
 use Rattle.pool_journal.specs.declared.step.Step.{Step}
 use Rattle.pool_journal.specs.Slots.{Slot, Shown, step_at}
 use Rattle.pool_journal.proofs.Entering.{on_some, on_none}

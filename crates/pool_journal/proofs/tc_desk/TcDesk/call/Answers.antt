@@ -1,5 +1,5 @@
 use Rattle.std.proofs.Common.{ap, sym, ◌∙◌, subst, le_trans}
-use Rattle.node_laws.specs.declared.event.Event.{Event}
+use Rattle.node_sides.specs.node_laws.specs.declared.event.Event.{Event}
 use Rattle.pool_journal.specs.Marking.{IsLowOf}
 use Rattle.pool_journal.specs.Views.{View}
 use Rattle.pool_journal.proofs.Marking.{low_is, seat_marked}

@@ -2,8 +2,8 @@ use Rattle.std.specs.Prelude.{Result, Ok, Err, IfOk, OnErr}
 use Rattle.std.specs.Result.{result_unwrap_or}
 use Rattle.std.proofs.Common.{◌≡◌, ℕ, Bool, true, false, true≢false, sym, ◌∙◌, subst}
 use Rattle.record_key.specs.declared.refusal.Refusal.{Refusal}
-use Rattle.tc_core.specs.TcView.{TcView}
-use Rattle.node_laws.specs.Component.{LeavesBytes}
+use Rattle.node_sides.specs.tc_core.specs.TcView.{TcView}
+use Rattle.node_sides.specs.node_laws.specs.Component.{LeavesBytes}
 use Rattle.pool_journal.specs.Desks.{TcFound}
 use Rattle.pool_journal.specs.Steps.{GivesTc}
 use Rattle.pool_journal.proofs.tc_desk.TcDesk.crash.Goals as goal

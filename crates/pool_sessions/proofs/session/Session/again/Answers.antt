@@ -1,10 +1,10 @@
 use Rattle.std.proofs.Common.{◌≡◌, sym, subst}
 use Rattle.std.specs.Prelude.{Result, Ok, Err, IfErr, IsErrAnd}
-use Rattle.pool_journal.specs.Sessions.{Part}
+use Rattle.shared_node.specs.pool_journal.specs.Sessions.{Part}
 use Rattle.record_key.specs.declared.refusal.Refusal.{Refusal}
-use Rattle.session_answers.proofs.Resuming.{carries_on, refused_again}
-use Rattle.session_answers.specs.Again.{CarriesOn, RefusedAgain}
-use Rattle.session_answers.specs.declared.told.Told.{Told}
+use Rattle.shared_node.specs.session_answers.proofs.Resuming.{carries_on, refused_again}
+use Rattle.shared_node.specs.session_answers.specs.Again.{CarriesOn, RefusedAgain}
+use Rattle.shared_node.specs.session_answers.specs.declared.told.Told.{Told}
 use Rattle.pool_sessions.proofs.session.Session.again.Goals as goal
 
 refused_as : (result : Result Told Refusal) (r : Refusal) (old new : Part) → RefusedAgain old r new

@@ -1,14 +1,14 @@
 use Rattle.std.proofs.Common.{◌≡◌, ℕ, Some, None, subst, sym, ap}
 use Rattle.history.specs.ListMachine.{Line, TellsCommitted}
 use Rattle.boxcar.specs.Table.{Shelves}
-use Rattle.node_laws.specs.declared.event.Event.TheVariants as event
-use Rattle.node_laws.specs.declared.event.Out.{Out}
-use Rattle.node_laws.specs.declared.event.Out.TheVariants as out
-use Rattle.session_answers.specs.declared.ended.Ended.{Ended}
-use Rattle.session_answers.specs.declared.ended.Ended.TheVariants as ended
-use Rattle.session_answers.specs.Answers.{AddsCall, Ends, IsToldAs, TellsCommit}
-use Rattle.pool_journal.specs.Sessions.{Part, ends}
-use Rattle.session_answers.proofs.Telling.{commits as committed}
+use Rattle.shared_node.specs.node_laws.specs.declared.event.Event.TheVariants as event
+use Rattle.shared_node.specs.node_laws.specs.declared.event.Out.{Out}
+use Rattle.shared_node.specs.node_laws.specs.declared.event.Out.TheVariants as out
+use Rattle.shared_node.specs.session_answers.specs.declared.ended.Ended.{Ended}
+use Rattle.shared_node.specs.session_answers.specs.declared.ended.Ended.TheVariants as ended
+use Rattle.shared_node.specs.session_answers.specs.Answers.{AddsCall, Ends, IsToldAs, TellsCommit}
+use Rattle.shared_node.specs.pool_journal.specs.Sessions.{Part, ends}
+use Rattle.shared_node.specs.session_answers.proofs.Telling.{commits as committed}
 use Rattle.pool_sessions.proofs.session.Session.commit.Goals as goal
 
 -- a commit that was told

@@ -1,8 +1,8 @@
 use Rattle.std.proofs.Common.{◌≡◌, ℕ, Some, subst}
 use Rattle.std.specs.Prelude.{IfOk}
-use Rattle.session_answers.specs.Answers.{Ends}
-use Rattle.session_answers.specs.Asking.{event_of}
-use Rattle.pool_journal.specs.Callers.{SessionView}
+use Rattle.shared_node.specs.session_answers.specs.Answers.{Ends}
+use Rattle.shared_node.specs.session_answers.specs.Asking.{event_of}
+use Rattle.shared_node.specs.pool_journal.specs.Callers.{SessionView}
 use Rattle.pool_sessions.proofs.session.Session.run.Goals as goal
 
 pub returns-clause-ends : goal.returns-clause-ends

@@ -1,7 +1,7 @@
 use Rattle.std.proofs.Common.{◌≡◌}
 use Rattle.std.specs.Prelude.{None}
-use Rattle.pool_journal.specs.Callers.{IsUntold}
-use Rattle.pool_journal.specs.Errands.{FailsSince}
+use Rattle.session_answers.specs.pool_journal.specs.Callers.{IsUntold}
+use Rattle.session_answers.specs.pool_journal.specs.Errands.{FailsSince}
 use Rattle.shared_node.proofs.shared.Shared.carry_on.Given as goal
 
 -- nothing was told so far, and the transaction is what it was

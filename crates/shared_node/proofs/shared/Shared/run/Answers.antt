@@ -1,5 +1,5 @@
 use Rattle.std.proofs.Common.{◌≡◌, Some, subst}
-use Rattle.pool_journal.specs.Sessions.{Part}
+use Rattle.session_answers.specs.pool_journal.specs.Sessions.{Part}
 use Rattle.session_answers.proofs.Ending.{ends_by}
 use Rattle.session_answers.specs.Answers.{CallsUntold}
 use Rattle.session_answers.specs.Asking.{event_of}

@@ -1,6 +1,6 @@
 use Rattle.std.specs.Prelude.{IfSome}
 use Rattle.std.proofs.Common.{Option, sym, subst}
-use Rattle.pool_journal.specs.Slots.{Slot, Shown}
+use Rattle.session_answers.specs.pool_journal.specs.Slots.{Slot, Shown}
 use Rattle.shared_node.proofs.Results.{alone}
 use Rattle.shared_node.proofs.shared.Shared.served.Goals as goal
 

@@ -1,8 +1,8 @@
 use Rattle.std.specs.Prelude.{◌≡◌, true, IfOk, IfSome, OnOk}
 use Rattle.std.proofs.Common.{Option, ℕ, sym, subst}
-use Rattle.pool_journal.specs.Desks.{DcFound}
-use Rattle.pool_journal.specs.Steps.{GivesDc}
-use Rattle.pool_journal.specs.Witnessed.{AreWitnessed, DcRan}
+use Rattle.session_answers.specs.pool_journal.specs.Desks.{DcFound}
+use Rattle.session_answers.specs.pool_journal.specs.Steps.{GivesDc}
+use Rattle.session_answers.specs.pool_journal.specs.Witnessed.{AreWitnessed, DcRan}
 use Rattle.shared_node.proofs.Results.{alone, ran_in}
 use Rattle.shared_node.proofs.shared.Shared.session.Goals as goal
 

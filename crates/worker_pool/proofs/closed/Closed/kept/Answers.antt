@@ -1,9 +1,9 @@
 use Rattle.std.proofs.Common.{List, subst}
-use Rattle.node_laws.proofs.Invariant.Promised.{promised}
-use Rattle.pool_journal.specs.Ending.{EndsWith}
-use Rattle.pool_journal.specs.declared.step.Step.{Step}
+use Rattle.world.specs.node_laws.proofs.Invariant.Promised.{promised}
+use Rattle.pool_sessions.specs.pool_journal.specs.Ending.{EndsWith}
+use Rattle.pool_sessions.specs.pool_journal.specs.declared.step.Step.{Step}
 use Rattle.worker_pool.specs.Closing.{ClosedView}
-use Rattle.pool_journal.specs.Steps.{RunsFrom}
+use Rattle.pool_sessions.specs.pool_journal.specs.Steps.{RunsFrom}
 use Rattle.worker_pool.proofs.closed.Closed.kept.Goals as goal
 
 pub returns-clause-run : goal.returns-clause-run

@@ -1,9 +1,9 @@
 use Rattle.std.proofs.Common.{List, sym, subst}
 use Rattle.std.specs.List.{AllByRecursion}
-use Rattle.pool_journal.specs.declared.step.Step.{Step}
+use Rattle.pool_sessions.specs.pool_journal.specs.declared.step.Step.{Step}
 use Rattle.worker_pool.specs.Closing.{ClosedView, IsCovered, IsKeptBy, caller_as}
-use Rattle.pool_journal.proofs.Entering.{on_ok}
-use Rattle.pool_journal.proofs.Lists.{all_map}
+use Rattle.pool_sessions.specs.pool_journal.proofs.Entering.{on_ok}
+use Rattle.pool_sessions.specs.pool_journal.proofs.Lists.{all_map}
 use Rattle.worker_pool.proofs.engine.Engine.close.Goals as goal
 
 pub returns-clause-kept : goal.returns-clause-kept

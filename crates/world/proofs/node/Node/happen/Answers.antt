@@ -1,5 +1,5 @@
 use Rattle.world.specs.Seen.{seen}
-use Rattle.node_laws.proofs.Halves.{may_dc}
+use Rattle.node_sides.specs.node_laws.proofs.Halves.{may_dc}
 use Rattle.world.proofs.node.Node.happen.Goals as goal
 
 pub call-requires-in_default-2-clause-may : goal.call-requires-in_default-2-clause-may

@@ -2,10 +2,10 @@ use Rattle.std.proofs.Common.{subst, sym}
 use Rattle.std.specs.Prelude.{Ok}
 use Rattle.codec.specs.declared.request.Request.{Request}
 use Rattle.codec.specs.declared.request.Request.TheVariants as asks
-use Rattle.tc_core.specs.declared.told.RecoverStep.TheVariants as step
-use Rattle.tc_core.specs.Recovery.{RecoverGives, SendsOp}
-use Rattle.tc_core.specs.TcView.{TcView}
-use Rattle.node_laws.proofs.Recovered.{gives_spelled, sends_recovery, spelled_request}
+use Rattle.node_sides.specs.tc_core.specs.declared.told.RecoverStep.TheVariants as step
+use Rattle.node_sides.specs.tc_core.specs.Recovery.{RecoverGives, SendsOp}
+use Rattle.node_sides.specs.tc_core.specs.TcView.{TcView}
+use Rattle.node_sides.specs.node_laws.proofs.Recovered.{gives_spelled, sends_recovery, spelled_request}
 use Rattle.world.proofs.SpelledOp.{op_given}
 use Rattle.world.proofs.node.Node.recover_op.Goals as goal
 

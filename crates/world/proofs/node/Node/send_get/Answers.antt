@@ -2,10 +2,10 @@ use Rattle.std.proofs.Common.{subst}
 use Rattle.std.specs.Prelude.{Ok}
 use Rattle.codec.specs.declared.request.Request.{Request}
 use Rattle.codec.specs.declared.request.Request.TheVariants as asks
-use Rattle.tc_core.specs.Calls.{ResendGives}
-use Rattle.tc_core.specs.TcView.{TcView}
-use Rattle.node_laws.proofs.Halves.{sends_op}
-use Rattle.node_laws.proofs.Invariant.Spellable.{resend_numbers}
+use Rattle.node_sides.specs.tc_core.specs.Calls.{ResendGives}
+use Rattle.node_sides.specs.tc_core.specs.TcView.{TcView}
+use Rattle.node_sides.specs.node_laws.proofs.Halves.{sends_op}
+use Rattle.node_sides.specs.node_laws.proofs.Invariant.Spellable.{resend_numbers}
 use Rattle.world.proofs.node.Node.send_get.Goals as goal
 
 pub push_reserved-requires-clause-put : goal.push_reserved-requires-clause-put

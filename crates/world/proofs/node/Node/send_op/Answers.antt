@@ -2,10 +2,10 @@ use Rattle.std.proofs.Common.{subst}
 use Rattle.std.specs.Prelude.{Ok}
 use Rattle.codec.specs.declared.request.Request.{Request}
 use Rattle.codec.specs.declared.request.Request.TheVariants as asks
-use Rattle.tc_core.specs.Calls.{ResendGives}
-use Rattle.tc_core.specs.TcView.{TcView}
-use Rattle.node_laws.proofs.Halves.{sends_op}
-use Rattle.node_laws.proofs.Invariant.Spellable.{awaited_spelled}
+use Rattle.node_sides.specs.tc_core.specs.Calls.{ResendGives}
+use Rattle.node_sides.specs.tc_core.specs.TcView.{TcView}
+use Rattle.node_sides.specs.node_laws.proofs.Halves.{sends_op}
+use Rattle.node_sides.specs.node_laws.proofs.Invariant.Spellable.{awaited_spelled}
 use Rattle.world.proofs.SpelledOp.{op_given}
 use Rattle.world.proofs.node.Node.send_op.Goals as goal
 

@@ -1,7 +1,7 @@
 use Rattle.std.proofs.Common.{refl}
 use Rattle.codec.specs.Parted.{request_to}
 use Rattle.record_key.specs.Lent.{op_on}
-use Rattle.node_laws.proofs.Halves.{owed}
+use Rattle.node_sides.specs.node_laws.proofs.Halves.{owed}
 use Rattle.world.specs.Seen.{seen}
 use Rattle.world.proofs.node.Node.serve.Goals as goal
 

@@ -2,8 +2,8 @@ use Rattle.std.proofs.Common.{◌≡◌, ◌∙◌, ℕ, List, drop, Some, true,
 use Rattle.codec.specs.FrameIndex.{places_of}
 use Rattle.codec.specs.declared.reply.Reply.{Reply}
 use Rattle.codec.specs.Replies.{reply_bytes, session_of, has_rows}
-use Rattle.tc_core.specs.Replies.{is_of_another}
-use Rattle.node_laws.specs.Messages.{message_at}
+use Rattle.node_sides.specs.tc_core.specs.Replies.{is_of_another}
+use Rattle.node_sides.specs.node_laws.specs.Messages.{message_at}
 use Rattle.world.specs.Sent.{SentView, AllStand, StandsAt, reply_there, IsFramedReply, IsOfSession}
 use Rattle.world.specs.SentReads.{reply_reads}
 use Rattle.world.proofs.Apart.{IsFound, found, answered_apart, found_apart}

@@ -2,7 +2,7 @@ use Rattle.std.proofs.Common.{◌≡◌, ◌∙◌, ℕ, List, drop, Some, map, 
 use Rattle.codec.specs.FrameIndex.{places_of}
 use Rattle.codec.specs.declared.request.Request.{Request}
 use Rattle.codec.specs.Requests.{request_bytes, IsRequest}
-use Rattle.node_laws.specs.Messages.{message_at}
+use Rattle.node_sides.specs.node_laws.specs.Messages.{message_at}
 use Rattle.world.specs.Sent.{SentView, AllStand, StandsAt, request_there}
 use Rattle.world.specs.SentReads.{request_reads}
 use Rattle.world.proofs.Apart.{IsFound, found, asked_apart, read_apart}

@@ -1,10 +1,10 @@
 use Rattle.std.proofs.Common.{sym, subst}
 use Rattle.history.specs.ListMachine.{fresh}
-use Rattle.dc_core.specs.Kept.{IsDc}
-use Rattle.node_laws.specs.Kept.{IsKept}
-use Rattle.node_laws.specs.Node.{NodeView}
-use Rattle.node_laws.specs.Simulation.{NodeStandsFor}
-use Rattle.node_laws.proofs.Machine.Headline.{kept_fresh, fresh_stands_for}
+use Rattle.node_sides.specs.dc_core.specs.Kept.{IsDc}
+use Rattle.node_sides.specs.node_laws.specs.Kept.{IsKept}
+use Rattle.node_sides.specs.node_laws.specs.Node.{NodeView}
+use Rattle.node_sides.specs.node_laws.specs.Simulation.{NodeStandsFor}
+use Rattle.node_sides.specs.node_laws.proofs.Machine.Headline.{kept_fresh, fresh_stands_for}
 use Rattle.world.proofs.world.World+MemLog+MemPages.new.Goals as goal
 
 pub invariant_of-result : goal.invariant_of-result

@@ -1,5 +1,5 @@
 use Rattle.world.specs.Seen.{seen}
-use Rattle.node_laws.proofs.Invariant.Promised.{promised}
+use Rattle.node_sides.specs.node_laws.proofs.Invariant.Promised.{promised}
 use Rattle.world.proofs.world.World.kept.Goals as goal
 
 pub returns-clause-promised : goal.returns-clause-promised

@@ -1,16 +1,16 @@
 use Rattle.std.proofs.Common.{◌≡◌, ◌∙◌, ℕ, Bool, true, false, sym, ap, subst, ◌<◌, ◌≤◌, length, arith, inl, inr, true≢false, Some, None}
 use Rattle.std.specs.Prelude.{◌↔◌, IsTrue}
 use Rattle.std.specs.Option.{option_copied}
-use Rattle.tc_core.specs.declared.open_txns.Wanted.TheVariants.{Unanswered, Rolling}
-use Rattle.tc_core.specs.declared.phase.Phase.{Phase}
-use Rattle.tc_core.specs.declared.phase.Phase.TheVariants as phase
-use Rattle.tc_core.specs.OpenTxns.{oldest, wants}
-use Rattle.tc_core.specs.TcView.{TcView}
-use Rattle.dc_core.specs.DcView.{DcView}
-use Rattle.node_laws.specs.Node.{NodeView, AreUp}
-use Rattle.node_laws.specs.Rounds.{AreApart, IsApart, AreRunning, IsNextRound, round_for}
-use Rattle.node_laws.proofs.Machine.Settled.{at_rest, serving}
-use Rattle.node_laws.proofs.Settles.Rounds.{next_for, idle_all, rolling_first, unrolled_all}
+use Rattle.node_sides.specs.tc_core.specs.declared.open_txns.Wanted.TheVariants.{Unanswered, Rolling}
+use Rattle.node_sides.specs.tc_core.specs.declared.phase.Phase.{Phase}
+use Rattle.node_sides.specs.tc_core.specs.declared.phase.Phase.TheVariants as phase
+use Rattle.node_sides.specs.tc_core.specs.OpenTxns.{oldest, wants}
+use Rattle.node_sides.specs.tc_core.specs.TcView.{TcView}
+use Rattle.node_sides.specs.dc_core.specs.DcView.{DcView}
+use Rattle.node_sides.specs.node_laws.specs.Node.{NodeView, AreUp}
+use Rattle.node_sides.specs.node_laws.specs.Rounds.{AreApart, IsApart, AreRunning, IsNextRound, round_for}
+use Rattle.node_sides.specs.node_laws.proofs.Machine.Settled.{at_rest, serving}
+use Rattle.node_sides.specs.node_laws.proofs.Settles.Rounds.{next_for, idle_all, rolling_first, unrolled_all}
 use Rattle.world.proofs.world.World.next_round.Goals as goal
 
 -- the components run, and are these

@@ -1,16 +1,16 @@
 use Rattle.std.proofs.Common.{◌≡◌, ◌∙◌, [], sym, ap, subst}
-use Rattle.dc_core.specs.DcView.{fresh_dc}
-use Rattle.dc_core.specs.Kept.{IsDc}
+use Rattle.node_sides.specs.dc_core.specs.DcView.{fresh_dc}
+use Rattle.node_sides.specs.dc_core.specs.Kept.{IsDc}
 use Rattle.simulation.specs.Reading.{machine_read}
 use Rattle.simulation.proofs.Reading.{opened_is_read}
-use Rattle.tc_core.specs.TcView.{TcView}
-use Rattle.node_laws.specs.Halves.{node_of}
-use Rattle.node_laws.specs.Kept.{IsKept}
-use Rattle.node_laws.specs.Node.{NodeView, joined}
+use Rattle.node_sides.specs.tc_core.specs.TcView.{TcView}
+use Rattle.node_sides.specs.node_laws.specs.Halves.{node_of}
+use Rattle.node_sides.specs.node_laws.specs.Kept.{IsKept}
+use Rattle.node_sides.specs.node_laws.specs.Node.{NodeView, joined}
 use Rattle.world.specs.Seen.{seen}
-use Rattle.node_laws.specs.Simulation.{NodeStandsFor}
-use Rattle.node_laws.proofs.Machine.Opened.{kept_joined}
-use Rattle.node_laws.proofs.Restarts.TcCrashes.{stands_over}
+use Rattle.node_sides.specs.node_laws.specs.Simulation.{NodeStandsFor}
+use Rattle.node_sides.specs.node_laws.proofs.Machine.Opened.{kept_joined}
+use Rattle.node_sides.specs.node_laws.proofs.Restarts.TcCrashes.{stands_over}
 use Rattle.world.proofs.world.World.over.Goals as goal
 
 pub invariant_of-result : goal.invariant_of-result

@@ -1,6 +1,6 @@
 use Rattle.std.proofs.Common.{sym, ap}
-use Rattle.node_laws.specs.Forgetting.{without_messages}
-use Rattle.node_laws.specs.Node.{NodeView}
+use Rattle.node_sides.specs.node_laws.specs.Forgetting.{without_messages}
+use Rattle.node_sides.specs.node_laws.specs.Node.{NodeView}
 use Rattle.world.proofs.world.World.parted.Goals as goal
 
 pub returns-clause-node : goal.returns-clause-node

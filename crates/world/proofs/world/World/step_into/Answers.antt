@@ -1,4 +1,4 @@
-use Rattle.node_laws.proofs.Machine.Headline.{follows}
+use Rattle.node_sides.specs.node_laws.proofs.Machine.Headline.{follows}
 use Rattle.world.specs.Seen.{seen}
 use Rattle.world.proofs.world.World.step_into.Goals as goal
 
