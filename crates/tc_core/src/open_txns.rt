@@ -1,5 +1,5 @@
 //! The open transactions, each in a slot of its own, found by their numbers.
-ghost use Rattle.std.specs.Prelude.{◌≡◌, ◌≢◌, ◌<◌, [], ◌∷◌, length, slice_get, All, IsSome, IsSomeAnd, IfSome, IfNone, IfErr, OnOk, OnErr};
+ghost use Rattle.std.specs.Prelude.{◌≡◌, ◌≢◌, ◌<◌, ◌↔◌, [], ◌∷◌, length, slice_get, All, IsTrue, IsSome, IsSomeAnd, IfSome, IfNone, IfErr, OnOk, OnErr};
 ghost use Rattle.std.specs.Option.{option_copied};
 ghost use Rattle.tc_core.specs.Changed.{happens};
 ghost use Rattle.tc_core.specs.OpenTxns.{find, without, AreBelow, oldest, wants as is_wanted};
@@ -57,6 +57,13 @@ impl OpenTxns {
         ensures { result ≡ length self.now }
     {
         self.slots.len()
+    }
+
+    /// Whether none is.
+    pub fn is_empty(&self) -> bool
+        ensures { IsTrue result ↔ self.now ≡ [] }
+    {
+        self.len() == 0
     }
 
     /// The transaction of this number.

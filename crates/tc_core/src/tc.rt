@@ -1,5 +1,5 @@
 //! The transaction component.
-ghost use Rattle.std.specs.Prelude.{◌≡◌, ◌≤◌, ◌++◌, ◌+◌, ℕ, Option, [], true, false, length, Some, None, Ok, IfSome, IfNone, IfOk, IfErr, OnOk, OnErr};
+ghost use Rattle.std.specs.Prelude.{◌≡◌, ◌≤◌, ◌++◌, ◌+◌, ◌↔◌, ℕ, Option, [], true, false, length, Some, None, Ok, IsTrue, IfSome, IfNone, IfOk, IfErr, OnOk, OnErr};
 ghost use Rattle.std.specs.Option.{option_copied, option_map};
 ghost use Rattle.stable.specs.Crash.{BeginsWith};
 ghost use Rattle.stable.specs.Usage.{failing_in};
@@ -407,6 +407,13 @@ impl<D: LogDevice> Tc<D> {
         ensures { result.now ≡ self.now.committing }
     {
         self.parts.committing.as_slice()
+    }
+
+    /// Whether no transaction is open.
+    pub fn has_nobody_open(&self) -> bool
+        ensures { IsTrue result ↔ self.now.open_txns ≡ [] }
+    {
+        self.parts.open_txns.is_empty()
     }
 
     /// How many records the log has.

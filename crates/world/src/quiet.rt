@@ -1,10 +1,9 @@
 //! Whether a node is quiet.
-ghost use Rattle.std.specs.Prelude.{◌≡◌, ◌↔◌, [], IsTrue};
+ghost use Rattle.std.specs.Prelude.{◌↔◌, IsTrue};
 ghost use Rattle.world.specs.Quiet.{IsQuiet};
 
 use crate::world::World;
-use node_sides::tc_core::Tc;
-use stable::{CrashLog, CrashPages, LogDevice};
+use stable::{CrashLog, CrashPages};
 
 impl<D: CrashLog, P: CrashPages> World<D, P> {
     /// Whether nothing is left to do, and no transaction is open. Takes no memory and reads no record.
@@ -17,19 +16,6 @@ impl<D: CrashLog, P: CrashPages> World<D, P> {
         let Ok(tc) = self.running_tc() else {
             unreachable!();
         };
-        has_nobody_open(tc)
+        tc.has_nobody_open()
     }
-}
-
-/// Nobody is open: no number of a record is that of an open transaction.
-fn has_nobody_open<D: LogDevice>(tc: &Tc<D>) -> bool
-    ensures { IsTrue result ↔ tc.now.open_txns ≡ [] }
-{
-    tc.kept();
-    for txn in 0..=tc.records() {
-        if let Some(_open) = tc.open_txn(txn) {
-            return false;
-        }
-    }
-    true
 }
