@@ -1,6 +1,6 @@
 //! A log device written against the trait alone, as one outside this crate is.
-ghost use Rattle.std.specs.Prelude.{◌≡◌, false, IsTrue, IsOkUnless};
-ghost use Rattle.stable.specs.Usage.{is_due, used};
+ghost use Rattle.std.specs.Prelude.{◌≡◌, false, IsTrue, OnOk, IsOkUnless};
+ghost use Rattle.stable.specs.Usage.{is_due, is_set, used};
 
 use stable::{Counter, DeviceError, LogDevice, Spelling};
 use std::alloc::Global;
@@ -40,6 +40,7 @@ impl Model for Faults {
 impl Faults {
     fn call(&mut self) -> Result<(), DeviceError>
         ensures no_memory { IsOkUnless result DeviceError.Device }
+        ensures set { OnOk result (is_set self.old ≡ false) }
         ensures due { IsTrue (is_due self.old) }
         ensures used { self.new ≡ used self.old result }
     {

@@ -13,6 +13,7 @@ use Rattle.node_sides.specs.node_laws.specs.Node.{NodeView, StepsTo}
 use Rattle.node_sides.specs.node_laws.specs.Stepping.{IsStep, Chain}
 use Rattle.node_sides.specs.node_laws.proofs.Machine.Headline.{follows}
 use Rattle.pool_journal.specs.declared.step.Step.{Step}
+use Rattle.pool_journal.specs.Ending.{LeavesNode}
 use Rattle.pool_journal.specs.Kept.{is_dc, HandsReply, HandsRequest, EntersTc, EntersDc, IsInRun}
 use Rattle.pool_journal.specs.Steps.{is_tc, events, outs, asked_after, given_after, requests, replies, TcState, DcState, count, TcStep, DcStep, TcAlong, DcAlong, GivesTc, GivesDc, RunsTo, Start, IsStart, tc_start, dc_start}
 use Rattle.pool_journal.specs.Views.{Sees}
@@ -227,6 +228,12 @@ pub runs : (start : Start) (es : List Step) (t : TcState) (u : DcState) → IsSt
 runs start es t u is a b =
     let m = merge es t u (tc_start start) (dc_start start) [] [] refl refl is a b in
     record { chain = m.chain; kept = m.kept; requests = refl; replies = refl }
+
+-- and leaves, once its messages are let go
+pub leaves : (start : Start) (es : List Step) (t : TcState) (u : DcState) → IsStart start → GivesTc start es t → GivesDc start es u
+    → LeavesNode start es (node_of t.side u.side [] [])
+leaves start es t u is a b =
+    record { node = node_of t.side u.side (requests es) (replies es); runs = runs start es t u is a b; left_is = refl }
 
 pub in_run : (start : Start) (es : List Step) (t : TcState) (u : DcState) → IsStart start → GivesTc start es t → GivesDc start es u
     → IsInRun start es u.side

@@ -10,12 +10,13 @@ use Rattle.boxcar.specs.Table.{Shelves}
 use Rattle.history.specs.ListMachine.{Line}
 use Rattle.node_sides.specs.node_laws.specs.declared.event.Out.{Out}
 use Rattle.node_sides.specs.node_laws.specs.declared.event.Out.TheVariants as out
-use Rattle.node_sides.specs.node_laws.specs.Halves.{IsSpelledIf}
+use Rattle.node_sides.specs.node_laws.specs.Halves.{IsSpelledIf, node_of}
 use Rattle.node_sides.specs.node_laws.specs.Messages.{message_at}
 use Rattle.pool_journal.specs.declared.place.Place.{Place}
 use Rattle.pool_journal.specs.declared.step.Step.{Step}
 use Rattle.pool_journal.specs.Kept.{is_dc, calls_of, IsLine, PlaceKept, PlacesKept, LinesKept, place_after, place_heard, EntersTc, EntersDc, IsInRun, IsSentBy}
 use Rattle.pool_journal.specs.Sessions.{IsCalled, LeavesLive, SessionCall, Part, calls_as, called, no_part, line_of, pending, part_of, awaits, called_as, is_pending, live_after, IsClosed, IsLeft, IsSameCall}
+use Rattle.pool_journal.specs.Ending.{LeavesNode}
 use Rattle.pool_journal.specs.Errands.{FailsSince}
 use Rattle.pool_journal.specs.declared.failure.Failure.{Failure}
 use Rattle.pool_journal.specs.declared.news.News.{News}
@@ -26,7 +27,7 @@ use Rattle.pool_journal.specs.Slots.{Slot, step_at, steps, asks, gives, through,
 use Rattle.pool_journal.specs.Steps.{is_tc, requests, replies, TcState, DcState, Start, IsStart, GivesTc, GivesDc, RunsFrom}
 use Rattle.pool_journal.specs.Views.{View, Sees}
 use Rattle.pool_journal.proofs.Lists.{all_snoc, all_map, kept_at, last_snoc, filter_snoc, request_of, reply_of}
-use Rattle.pool_journal.proofs.Along.{tc_on, dc_on, tc_entered, dc_entered, runs, in_run, spelled}
+use Rattle.pool_journal.proofs.Along.{tc_on, dc_on, tc_entered, dc_entered, runs, leaves, in_run, spelled}
 use Rattle.pool_journal.proofs.Failures.{forgotten, none_since}
 use Rattle.pool_journal.proofs.Parts.{heard_kept, grown, part_snoc, after_called, closed_on, ended}
 
@@ -208,6 +209,11 @@ module _ (start : Start) (row : Shelves) (names : ℕ → ℕ) where
       → LinesKept start row names tokens asked given tc dc → GivesDc start dc.steps s → IsInRun start (steps tokens) s.side
   lines_in_run tokens asked given tc dc s k gives =
       in_run start (steps tokens) k.gives_tc.0 s k.starts k.gives_tc.1 (dc_on start dc.steps (steps tokens) s k.dc_sees gives)
+
+  pub lines_leave : (tokens asked given : List Slot) (tc dc : View) (t : TcState) (u : DcState)
+      → LinesKept start row names tokens asked given tc dc → GivesTc start (steps tokens) t → GivesDc start (steps tokens) u
+      → LeavesNode start (steps tokens) (node_of t.side u.side [] [])
+  lines_leave tokens asked given tc dc t u k a b = leaves start (steps tokens) t u k.starts a b
 
 calls_other : (o : Option ℕ) (n s : ℕ) → o ≡ Some n → (s ≡ n → ⊥) → calls_as o s ≡ false
 calls_other o n s is other =

@@ -1,12 +1,11 @@
 //! What lies under the lock of the data component.
-ghost use Rattle.std.specs.Prelude.{◌≡◌, ◌+◌, true, false, None, Some, IfOk, IfErr, IfSome, IfNone, OnOk, OnErr};
+ghost use Rattle.std.specs.Prelude.{◌≡◌, ◌+◌, ℕ, true, false, None, Some, IfOk, IfErr, IfSome, IfNone, OnOk, OnErr};
 ghost use Rattle.std.specs.Option.{option_copied};
 ghost use Rattle.node_sides.specs.node_laws.specs.Component as sides;
 ghost use Rattle.node_sides.specs.node_laws.specs.declared.event.Event.TheVariants as event;
 ghost use Rattle.node_sides.specs.node_laws.specs.declared.event.Out.TheVariants as out;
 ghost use Rattle.node_sides.specs.node_laws.specs.Halves.{of_tc, DcLeads, MayDc, IsInNode};
 ghost use Rattle.node_sides.specs.node_laws.specs.Messages.{message_at};
-ghost use Rattle.pool_journal.specs.Ending.{EndsWith};
 ghost use Rattle.pool_journal.specs.Desks.{delivers, TendsNothing};
 ghost use Rattle.pool_journal.specs.Slots.{Shown};
 ghost use Rattle.pool_journal.specs.Steps.{GivesDc, dc_start, count, requests};
@@ -29,7 +28,7 @@ use boxcar::{Pushed, Vec as Row};
 use codec::Request;
 use node_sides::DcSide;
 use node_sides::node_laws::{Event, Out};
-use record_key::{Key, Refusal, Value};
+use record_key::Refusal;
 use stable::{CrashLog, CrashPages};
 use std::alloc::Global;
 use std::marker::Model;
@@ -83,28 +82,20 @@ impl<J: Naming, D: CrashLog, P: CrashPages> DcDesk<J, D, P> {
         self.visitor.kept();
     }
 
-    /// Copies of the records, where it runs, which some run of the node through all entries ends with. Refused NoMemory.
-    pub fn rows(
-        &mut self,
-        row: &Row<Entry>,
-        journal: &mut Journal<J>,
-    ) -> Result<Option<Vec<(Key, Value)>>, Refusal>
+    /// The component, which is what all entries give.
+    pub fn into_side(self, row: &Row<Entry>, journal: &mut Journal<J>) -> DcSide<D, P>
         requires row { row.now ≡ J.entries }
         ensures same { journal.new ≡ journal.old }
-        ensures rows { IfOk result (λ rows. EndsWith J.start journal.old rows) }
-        ensures memory { IfErr result (λ refusal. refusal ≡ Refusal.NoMemory) }
+        ensures gives { (given : ℕ) × GivesDc J.start journal.old record { side = result; given = given } }
     {
         let DcDesk {
             alloc: _,
             side,
             given,
-            visitor,
+            mut visitor,
         } = self;
-        journal.look_dc(row, visitor, side, *given);
-        if !side.is_up() {
-            return Ok(None);
-        }
-        Ok(Some(side.rows()?))
+        journal.look_dc(row, &mut visitor, &side, given);
+        side
     }
 
     /// The session that runs. Refused NotConnected where the component is down.

@@ -1,8 +1,9 @@
 //! What lies under the journal's lock.
-ghost use Rattle.std.specs.Prelude.{◌≡◌, ◌++◌, ◌∷◌, [], None, Some, true, false, IfOk, IfSome, IfNone, OnErr, length, map, vec_len, slice_get};
-ghost use Rattle.node_sides.specs.node_laws.specs.Halves.{IsSpelledIf};
+ghost use Rattle.std.specs.Prelude.{◌≡◌, ◌++◌, ◌∷◌, ℕ, [], None, Some, true, false, IfOk, IfSome, IfNone, OnErr, length, map, vec_len, slice_get};
+ghost use Rattle.node_sides.specs.node_laws.specs.Halves.{IsSpelledIf, node_of};
 ghost use Rattle.node_sides.specs.node_laws.specs.Messages.{message_at};
 ghost use Rattle.pool_journal.specs.Callers.{IsGrown, IsNews, IsUntold};
+ghost use Rattle.pool_journal.specs.Ending.{LeavesNode};
 ghost use Rattle.pool_journal.specs.Kept.{is_dc, IsInRun, IsSentBy, EntersTc, EntersDc, PlacesKept, place_after};
 ghost use Rattle.pool_journal.specs.declared.news.News.{News};
 ghost use Rattle.pool_journal.specs.declared.news.News.TheVariants as news;
@@ -22,7 +23,7 @@ use crate::step::Step;
 use crate::stirs::Stirs;
 use crate::view::Visitor;
 use boxcar::{Pushed, Vec as Row};
-use node_sides::DcSide;
+use node_sides::{DcSide, TcSide};
 use stable::{CrashLog, CrashPages};
 use std::marker::Model;
 use std::sync::Wait;
@@ -145,6 +146,31 @@ impl<J: Naming> Journal<J> {
         ensures { RunsFrom J.start self.now }
     {
         self.lines.is_run();
+    }
+
+    /// What they give of both components is what some run of the node through them leaves, once its messages are let go.
+    pub fn leaves<D: CrashLog, P: CrashPages>(&self, tc: &TcSide<D>, dc: &DcSide<D, P>)
+        requires tc { (sent : ℕ) × GivesTc J.start self.now record { side = tc.now; sent = sent } }
+        requires dc { (given : ℕ) × GivesDc J.start self.now record { side = dc.now; given = given } }
+        ensures { LeavesNode J.start self.now (node_of tc.now dc.now [] []) }
+    {
+        self.lines.leaves(tc, dc);
+    }
+
+    /// The transaction component has seen all entries.
+    pub fn look_tc(&mut self, row: &Row<Entry>, visitor: &mut Visitor<J>)
+        requires row { row.now ≡ J.entries }
+        requires name { visitor.old.name ≡ J.names 0 }
+        ensures same { self.new ≡ self.old }
+        ensures visitor { visitor.new ≡ record { name = visitor.old.name; steps = self.old } }
+        ensures sees { Sees is_tc visitor.old.steps self.old }
+    {
+        let Journal {
+            lines,
+            places: _,
+            stirs: _,
+        } = self;
+        lines.meet_tc(row, visitor);
     }
 
     /// Looks for the reply of this number on behalf of the transaction component, which has seen all entries then.

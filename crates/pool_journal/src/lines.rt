@@ -1,7 +1,8 @@
 //! The journal's entries, in order.
-ghost use Rattle.std.specs.Prelude.{◌≡◌, ◌<◌, [], ◌∷◌, ◌++◌, true, IfOk, IfSome, IfNone, OnErr, length, slice_get, cond, vec_len, vec_capacity};
-ghost use Rattle.node_sides.specs.node_laws.specs.Halves.{IsSpelledIf};
+ghost use Rattle.std.specs.Prelude.{◌≡◌, ◌<◌, ℕ, [], ◌∷◌, ◌++◌, true, IfOk, IfSome, IfNone, OnErr, length, slice_get, cond, vec_len, vec_capacity};
+ghost use Rattle.node_sides.specs.node_laws.specs.Halves.{IsSpelledIf, node_of};
 ghost use Rattle.node_sides.specs.node_laws.specs.Messages.{message_at};
+ghost use Rattle.pool_journal.specs.Ending.{LeavesNode};
 ghost use Rattle.pool_journal.specs.Steps.{is_tc, RunsFrom, requests, replies, TcState, DcState, GivesTc, GivesDc, IsStart};
 ghost use Rattle.pool_journal.specs.Slots.{Shown, IsShown, seen, through, last_of};
 ghost use Rattle.pool_journal.specs.Views.{Sees};
@@ -15,7 +16,7 @@ use crate::trace::Trace;
 use crate::tracing::{nothing, up_to};
 use crate::view::{Party, Visitor, again};
 use boxcar::{Pushed, Vec as Row};
-use node_sides::DcSide;
+use node_sides::{DcSide, TcSide};
 use stable::{CrashLog, CrashPages};
 use std::alloc::Global;
 use std::marker::Model;
@@ -124,6 +125,15 @@ impl<J: Naming> Lines<J> {
         ensures { RunsFrom J.start self.now }
     {
         let _ = &self.tokens;
+    }
+
+    /// What they give of both components is what some run of the node through them leaves.
+    pub fn leaves<D: CrashLog, P: CrashPages>(&self, tc: &TcSide<D>, dc: &DcSide<D, P>)
+        requires tc { (sent : ℕ) × GivesTc J.start self.now record { side = tc.now; sent = sent } }
+        requires dc { (given : ℕ) × GivesDc J.start self.now record { side = dc.now; given = given } }
+        ensures { LeavesNode J.start self.now (node_of tc.now dc.now [] []) }
+    {
+        let _ = (&self.tokens, tc, dc);
     }
 
     /// How many entries there are.

@@ -28,7 +28,7 @@ use crate::next::Next;
 use crate::row::boxed;
 use crate::step::Step;
 use crate::view::Visitor;
-use boxcar::Pushed;
+use boxcar::{Pushed, Vec as Row};
 use codec::Reply;
 use marks::{Marks, Seat};
 use node_sides::TcSide;
@@ -109,6 +109,23 @@ impl<J: Naming, D: CrashLog> TcDesk<J, D> {
         ensures shown { AreWitnessed J.entries self.now.steps }
     {
         self.visitor.kept();
+    }
+
+    /// The component, which is what all entries give.
+    pub fn into_side(self, row: &Row<Entry>, journal: &mut Journal<J>) -> TcSide<D>
+        requires row { row.now ≡ J.entries }
+        ensures same { journal.new ≡ journal.old }
+        ensures gives { (sent : ℕ) × GivesTc J.start journal.old record { side = result; sent = sent } }
+    {
+        let TcDesk {
+            alloc: _,
+            side,
+            sent: _,
+            mut visitor,
+            seat: _,
+        } = self;
+        journal.look_tc(row, &mut visitor);
+        side
     }
 
     /// A step that is no client's call and delivers nothing, and its entry.

@@ -9,6 +9,7 @@
 //! to be answered like any other then.
 #![tactic(auto)]
 
+mod going_on;
 mod running;
 mod tally;
 mod threads;

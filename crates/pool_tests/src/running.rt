@@ -2,6 +2,7 @@
 ghost use Rattle.std.specs.Prelude.{◌<◌};
 ghost use Rattle.worker_pool.specs.Opened.{IsNamed};
 
+use crate::going_on::goes_on;
 use crate::threads::{Client, play_many, play_table};
 use engine_cases::{Left, Seat};
 use pool_cases::{
@@ -125,16 +126,14 @@ where
         agrees,
     } = played;
     let closed = engine.close(&rt, sessions)?;
-    both(
-        agrees,
-        judge(
-            alloc,
-            &Left { closed: &closed },
-            &parts,
-            case,
-            is_whole(agrees),
-        ),
-    )
+    let judged = judge(
+        alloc,
+        &Left { closed: &closed },
+        &parts,
+        case,
+        is_whole(agrees),
+    );
+    both(both(agrees, judged), goes_on(alloc, closed))
 }
 
 // Whether the case was played to its end.

@@ -61,11 +61,11 @@ impl<J: Naming, G, D: CrashLog, P: CrashPages> Shared<J, G, D, P> {
 }
 
 impl<J: Naming, G: Drop, D: CrashLog + Drop, P: CrashPages> Shared<J, G, D, P> {
-    /// What was written down, and the data component's desk, once nobody else shares the node.
-    pub fn into_parts(self) -> (Hall<J>, Journal<J>, DcDesk<J, D, P>) {
+    /// What was written down, and both components' desks, once nobody else shares the node.
+    pub fn into_parts(self) -> (Hall<J>, Journal<J>, TcDesk<J, D>, DcDesk<J, D, P>) {
         let Shared { entrance, dc, .. } = self;
-        let Entrance { board, tc: _ } = entrance;
+        let Entrance { board, tc } = entrance;
         let Board { hall, journal, .. } = board;
-        (hall, journal.into_inner(), dc.into_inner())
+        (hall, journal.into_inner(), tc.into_inner(), dc.into_inner())
     }
 }

@@ -4,7 +4,10 @@ use Rattle.std.specs.Global.{Vec}
 use Rattle.record_key.specs.Table.{Bytes}
 use Rattle.atomic_table.specs.Seated.{TableId}
 use Rattle.marks.specs.Seen.{reader}
+use Rattle.world.specs.node_laws.specs.Node.{NodeView, dc_side}
 use Rattle.worker_pool.specs.declared.seated.Sitter.{Sitter}
+use Rattle.pool_sessions.specs.pool_journal.specs.Ending.{IsRowsOf, LeavesNode}
+use Rattle.pool_sessions.specs.pool_journal.specs.Steps.{Start}
 use Rattle.pool_sessions.specs.pool_journal.specs.declared.step.Step.{Step}
 use Rattle.pool_sessions.specs.pool_journal.specs.Callers.{CallerView, SessionView, IsGrown}
 use Rattle.pool_sessions.specs.pool_journal.specs.Sessions.{part_of, no_part}
@@ -40,7 +43,14 @@ IsCovered es c = IsGrown c.part (part_of c.number es)
 abbrev pub IsKeptBy : List Step → SessionView → Type 0
 IsKeptBy es s = IsGrown s.part (part_of s.number es)
 
--- the journal, and the records at its end
+-- the journal, and the node at its end with its records
 pub record ClosedView : Type 0 where
   pub steps : List Step
   pub rows : Option (Vec (Bytes × Bytes))
+  pub node : NodeView
+
+-- some run of the node through these steps leaves it so, and these are its records, where its data component runs
+pub record IsLeftBy (start : Start) (steps : List Step) (rows : Option (Vec (Bytes × Bytes))) (node : NodeView)
+    : Type 0 where
+  pub leaves : LeavesNode start steps node
+  pub rows_are : IsRowsOf (dc_side node) rows

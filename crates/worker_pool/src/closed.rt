@@ -2,70 +2,82 @@
 ghost use Rattle.std.specs.Prelude.{◌≡◌, length, slice_get, IfOk, IfErr, IfSome, IfNone, Some, None};
 ghost use Rattle.world.specs.node_laws.specs.Node.{NodeView};
 ghost use Rattle.world.specs.node_laws.specs.Promises.{Promises};
-ghost use Rattle.pool_sessions.specs.pool_journal.specs.Ending.{EndsWith};
+ghost use Rattle.pool_sessions.specs.pool_journal.specs.Ending.{EndsWith, LeavesNode};
 ghost use Rattle.pool_sessions.specs.pool_journal.specs.Steps.{RunsFrom, RunsTo};
+ghost use Rattle.worker_pool.specs.Closing.{IsLeftBy};
 
 use pool_sessions::pool_journal::{Hall, Journal, Naming, Step};
 use record_key::{Key, Refusal, Value};
+use stable::{CrashLog, CrashPages, MemLog, MemPages};
 use std::alloc::Global;
 use std::marker::Model;
+use world::World;
 
-/// The journal with its row, and where the data component ran at the end its records.
+/// The journal with its row, where the data component ran at the end its records, and the node.
 #[derive(Drop)]
-struct Left<J: Naming> {
+struct Left<J: Naming, D: CrashLog, P: CrashPages> {
     hall: Hall<J>,
     journal: Journal<J>,
     rows: Option<Vec<(Key, Value)>>,
+    node: Box<World<D, P>>,
 }
 
-/// What an engine leaves, behind a pointer as what it is made of. Contracts see the steps, and the records.
+/// What an engine leaves, behind a pointer as what it is made of. Contracts see the steps, the records and the node.
 #[derive(Drop)]
-pub struct Closed<J: Naming> {
-    left: Box<Left<J>>,
+pub struct Closed<J: Naming, D: CrashLog = MemLog, P: CrashPages = MemPages> {
+    left: Box<Left<J, D, P>>,
 }
 
-impl<J: Naming> Model for Closed<J> {
+impl<J: Naming, D: CrashLog, P: CrashPages> Model for Closed<J, D, P> {
     ghost use Rattle.std.specs.Coded.{codes};
-    ghost use Rattle.pool_sessions.specs.pool_journal.specs.Ending.{EndsWith};
-    ghost use Rattle.worker_pool.specs.Closing.{ClosedView};
+    ghost use Rattle.record_key.specs.Table.{table_code};
+    ghost use Rattle.world.specs.system_txn.specs.SystemView.{pages_code};
+    ghost use Rattle.worker_pool.specs.Closing.{ClosedView, IsLeftBy};
 
     ghost Value = { ClosedView };
 
-    ghost coded = { Prim.hlevel codes };
+    ghost coded = { Prim.hlevel (codes, table_code, pages_code) };
 
-    ghost view = { λ c. record { steps = c.left.value.journal; rows = c.left.value.rows } };
+    ghost view = { λ c. record {
+      steps = c.left.value.journal;
+      rows = c.left.value.rows;
+      node = c.left.value.node.value;
+    } };
 
-    ghost invariant = { λ c. EndsWith J.start c.left.value.journal c.left.value.rows };
+    ghost invariant = { λ c. IsLeftBy J.start c.left.value.journal c.left.value.rows c.left.value.node.value };
 }
 
-impl<J: Naming> Closed<J> {
+impl<J: Naming, D: CrashLog + Drop, P: CrashPages + Drop> Closed<J, D, P> {
     /// What the journal ends with. Refused NoMemory.
     pub(crate) fn new(
         alloc: Global,
         hall: Hall<J>,
         journal: Journal<J>,
         rows: Option<Vec<(Key, Value)>>,
-    ) -> Result<Closed<J>, Refusal>
-        requires ends { EndsWith J.start journal rows }
-        ensures closed { IfOk result (λ closed. closed ≡ record { steps = journal; rows = rows }) }
+        node: Box<World<D, P>>,
+    ) -> Result<Closed<J, D, P>, Refusal>
+        requires left { IsLeftBy J.start journal rows node.value }
+        ensures closed { IfOk result (λ closed. closed ≡ record { steps = journal; rows = rows; node = node.value }) }
         ensures refused { IfErr result (λ refusal. refusal ≡ Refusal.NoMemory) }
     {
         let left = Left {
             hall,
             journal,
             rows,
+            node,
         };
         Ok(Closed {
             left: Box::new(alloc, left)?,
         })
     }
 
-    /// The steps are a run of the node, from its start on, which ends with these records; and what a node promises at
-    /// every moment holds at its end. So where it is settled, the records are those of a plain map after the operations
-    /// that stand.
+    /// The steps are a run of the node, from its start on, which ends with these records and leaves this node, once its
+    /// messages are let go; and what a node promises at every moment holds at its end. So where it is settled, the records
+    /// are those of a plain map after the operations that stand.
     pub fn kept(&self)
         ensures run { RunsFrom J.start self.now.steps }
         ensures rows { EndsWith J.start self.now.steps self.now.rows }
+        ensures left { LeavesNode J.start self.now.steps self.now.node }
         ensures promised { (w : NodeView) → RunsTo J.start self.now.steps w → Promises w }
     {
         self.left.journal.is_run();
@@ -93,5 +105,19 @@ impl<J: Naming> Closed<J> {
         ensures none { IfNone result (self.now.rows ≡ None) }
     {
         Some(self.left.rows.as_ref()?.as_slice())
+    }
+
+    /// The node, between whose components no message is on its way: it goes on alone, or as another engine's, or is
+    /// renewed. The journal is let go.
+    pub fn into_node(self) -> Box<World<D, P>>
+        ensures { result.value ≡ self.node }
+    {
+        let Left {
+            hall: _,
+            journal: _,
+            rows: _,
+            node,
+        } = Box::into_inner(self.left);
+        node
     }
 }

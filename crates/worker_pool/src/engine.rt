@@ -2,7 +2,8 @@
 ghost use Rattle.std.specs.Prelude.{◌≡◌, ◌<◌, IfOk, IfErr, OnOk, length};
 ghost use Rattle.std.specs.List.{AllByRecursion};
 ghost use Rattle.world.specs.node_laws.specs.declared.event.Event.TheVariants as event;
-ghost use Rattle.pool_sessions.specs.pool_journal.specs.Ending.{EndsWith};
+ghost use Rattle.world.specs.node_laws.specs.Node.{dc_side};
+ghost use Rattle.pool_sessions.specs.pool_journal.specs.Ending.{IsRowsOf, LeavesNode};
 ghost use Rattle.pool_sessions.specs.pool_journal.specs.Witnessed.{IsEntered, LeftBytes, WereUp};
 ghost use Rattle.pool_sessions.specs.shared_node.specs.Outages.{IsOutage};
 ghost use Rattle.worker_pool.specs.Closing.{IsFresh, IsKeptBy, below, numbers_named};
@@ -15,7 +16,7 @@ use crate::seated::{callers_of, cover, sessions_of};
 use boxcar::Vec as Row;
 use crossbeam_channel::{Receiver, Sender};
 use pool_sessions::Session;
-use pool_sessions::pool_journal::{DcDesk, Entry, Gate, Journal, Naming};
+use pool_sessions::pool_journal::{DcDesk, Entry, Gate, Journal, Naming, TcDesk};
 use pool_sessions::shared_node::{Job, Shared, work};
 use record_key::{Key, Refusal, Value};
 use stable::{CrashLog, CrashPages, MemLog, MemPages};
@@ -23,7 +24,8 @@ use std::alloc::{AllocError, Global};
 use std::sync::{Arc, Wait};
 use std::thread;
 use std::thread::{JoinHandle, Threads};
-use world::node_laws::Event;
+use world::World;
+use world::node_laws::{Event, forgetting_law};
 
 /// Workers that serve the sessions' requests. What its sessions are called with is given out with it.
 pub struct Engine<J: Naming, G, D: CrashLog = MemLog, P: CrashPages = MemPages> {
@@ -69,19 +71,37 @@ fn alone<T, R: Wait>(rt: &R, shared: Arc<T>) -> T {
     unreachable!()
 }
 
-// The records, where the data component runs. (Its desk is large, and goes before anything else is made.)
-fn rows_of<J: Naming, D: CrashLog + Drop, P: CrashPages + Drop>(
+// The node that both desks leave, behind a pointer, since whoever has it by value is dear to check.
+fn node_of_desks<J: Naming, D: CrashLog + Drop, P: CrashPages + Drop>(
+    alloc: Global,
+    tc: TcDesk<J, D>,
     dc: DcDesk<J, D, P>,
     row: &Row<Entry>,
     journal: &mut Journal<J>,
-) -> Result<Option<Vec<(Key, Value)>>, Refusal>
+) -> Result<Box<World<D, P>>, AllocError>
     requires row { row.now ≡ J.entries }
     ensures same { journal.new ≡ journal.old }
-    ensures rows { IfOk result (λ rows. EndsWith J.start journal.old rows) }
+    ensures leaves { IfOk result (λ node. LeavesNode J.start journal.old node.value) }
+{
+    let transactions = tc.into_side(row, journal);
+    let data = dc.into_side(row, journal);
+    journal.leaves(&transactions, &data);
+    forgetting_law();
+    Ok(Box::new(alloc, World::of(alloc, transactions, data))?)
+}
+
+// Its records, where its data component runs.
+fn rows_of<D: CrashLog, P: CrashPages>(
+    node: &World<D, P>,
+) -> Result<Option<Vec<(Key, Value)>>, Refusal>
+    ensures rows { IfOk result (λ rows. IsRowsOf (dc_side node.now) rows) }
     ensures refused { IfErr result (λ refusal. refusal ≡ Refusal.NoMemory) }
 {
-    let mut dc = dc;
-    dc.rows(row, journal)
+    match node.rows() {
+        Ok(rows) => Ok(Some(rows)),
+        Err(Refusal::NotConnected) => Ok(None),
+        Err(refusal) => Err(refusal),
+    }
 }
 
 impl<J, G, D, P> Engine<J, G, D, P>
@@ -186,13 +206,14 @@ where
         self.shared.bring_up(rt)
     }
 
-    /// Ends the engine with all of its sessions, and joins every thread: the journal, and where the data component runs
-    /// its records. What is unfinished of a session's transaction stays so. Refused NoMemory; the engine is gone then too.
+    /// Ends the engine with all of its sessions, and joins every thread: the journal, the node, and where its data component
+    /// runs its records. What is unfinished of a session's transaction stays so. Refused NoMemory; the engine is gone then
+    /// too.
     pub fn close<R: Threads + Wait>(
         self,
         rt: &R,
         sessions: Vec<Session<J, G, D, P>>,
-    ) -> Result<Closed<J>, Refusal>
+    ) -> Result<Closed<J, D, P>, Refusal>
         ensures kept { IfOk result (λ closed. AllByRecursion (IsKeptBy closed.steps) sessions.items) }
         ensures refused { IfErr result (λ refusal. refusal ≡ Refusal.NoMemory) }
     {
@@ -206,9 +227,10 @@ where
         let callers = callers_of(alloc, sessions);
         join_all(rt, workers);
         let callers = callers?;
-        let (hall, mut journal, dc) = alone(rt, shared).into_parts();
-        let rows = rows_of(dc, hall.row(), &mut journal)?;
+        let (hall, mut journal, tc, dc) = alone(rt, shared).into_parts();
+        let node = node_of_desks(alloc, tc, dc, hall.row(), &mut journal)?;
+        let rows = rows_of(&node)?;
         cover(&mut journal, hall.row(), callers);
-        Closed::new(alloc, hall, journal, rows)
+        Closed::new(alloc, hall, journal, rows, node)
     }
 }

@@ -84,6 +84,16 @@ impl<D: CrashLog, P: CrashPages> World<D, P> {
         }
     }
 
+    /// A node of the two components of one that was parted. No message is on its way.
+    pub fn of(alloc: Global, tc: TcSide<D>, dc: DcSide<D, P>) -> World<D, P>
+        requires kept { IsKept (node_of tc dc [] []) }
+        ensures { result ≡ node_of tc dc [] [] }
+    {
+        World {
+            node: Node::of(alloc, tc, dc),
+        }
+    }
+
     /// The two components apart; every message between them is let go. What holds of the node is handed on with them.
     pub fn parted(self) -> (TcSide<D>, DcSide<D, P>)
         ensures node { without_messages self ≡ node_of result.0 result.1 [] [] }

@@ -1,6 +1,7 @@
-use Rattle.std.proofs.Common.{List, subst}
+use Rattle.std.proofs.Common.{List, refl, subst}
 use Rattle.world.specs.node_laws.proofs.Invariant.Promised.{promised}
-use Rattle.pool_sessions.specs.pool_journal.specs.Ending.{EndsWith}
+use Rattle.world.specs.node_laws.specs.Node.{NodeView, dc_side}
+use Rattle.pool_sessions.specs.pool_journal.specs.Ending.{EndsWith, IsRowsOf, LeavesNode}
 use Rattle.pool_sessions.specs.pool_journal.specs.declared.step.Step.{Step}
 use Rattle.worker_pool.specs.Closing.{ClosedView}
 use Rattle.pool_sessions.specs.pool_journal.specs.Steps.{RunsFrom}
@@ -12,7 +13,19 @@ returns-clause-run g c =
     (subst (λ (es : List Step). RunsFrom g.J.Naming.start es) (λ i. (c.deref.ensures i).journal) c.is_run.ensures)
 
 pub returns-clause-rows : goal.returns-clause-rows
-returns-clause-rows g c = subst (λ (v : ClosedView). EndsWith g.J.Naming.start v.steps v.rows) c.self.view_is c.self.invariant
+returns-clause-rows g c =
+    let left = c.self.invariant.leaves in
+    subst (λ (v : ClosedView). EndsWith g.J.Naming.start v.steps v.rows) c.self.view_is
+    (record {
+      dc = dc_side left.node;
+      run = record { node = left.node; runs = left.runs; dc_is = refl };
+      rows_are =
+          subst (λ (w : NodeView). IsRowsOf (dc_side w) c.self.inside.left.value.rows) left.left_is c.self.invariant.rows_are;
+    })
+
+pub returns-clause-left : goal.returns-clause-left
+returns-clause-left g c =
+    subst (λ (v : ClosedView). LeavesNode g.J.Naming.start v.steps v.node) c.self.view_is c.self.invariant.leaves
 
 pub returns-clause-promised : goal.returns-clause-promised
 returns-clause-promised g c w runs = promised w runs.kept

@@ -1,0 +1,12 @@
+use Rattle.std.proofs.Common.{List, sym, subst}
+use Rattle.pool_journal.specs.declared.step.Step.{Step}
+use Rattle.pool_journal.specs.Kept.{PlacesKept}
+use Rattle.pool_journal.proofs.journal.Journal.look_tc.Goals as goal
+
+pub invariant_of-self : goal.invariant_of-self
+invariant_of-self g c =
+    let J = g.J.Naming in (
+      subst (λ (es : List Step). PlacesKept J.entries J.names es c.self.inside.places.items)
+          (sym c.meet_tc.ensures.same) c.self.invariant.0,
+      c.self.invariant.1,
+    )

@@ -1,0 +1,11 @@
+use Rattle.pool_journal.specs.Steps.{TcState}
+use Rattle.pool_journal.proofs.Along.{tc_on}
+use Rattle.pool_journal.proofs.tc_desk.TcDesk.into_side.Goals as goal
+
+pub returns-clause-gives : goal.returns-clause-gives
+returns-clause-gives g c =
+    let s = c.self.inside in (
+      s.sent,
+      tc_on g.J.Naming.start s.visitor.steps c.args.journal.now (record { side = s.side; sent = s.sent })
+          c.look_tc.ensures.sees c.self.invariant.gives,
+    )
