@@ -8,7 +8,7 @@ ghost use Rattle.pool_journal.specs.Kept.{is_dc, IsInRun, IsSentBy, EntersTc, En
 ghost use Rattle.pool_journal.specs.declared.news.News.{News};
 ghost use Rattle.pool_journal.specs.declared.news.News.TheVariants as news;
 ghost use Rattle.pool_journal.specs.Waiting.{IsNewsAt, IsNewsOf};
-ghost use Rattle.pool_journal.specs.Sessions.{IsCalled, IsClosed, part_of, line_of};
+ghost use Rattle.pool_journal.specs.Sessions.{IsCalled, IsClosed, IsLeft, part_of, line_of};
 ghost use Rattle.pool_journal.specs.Slots.{Shown};
 ghost use Rattle.pool_journal.specs.Steps.{is_tc, RunsFrom, requests, replies, TcState, DcState, GivesTc, GivesDc};
 ghost use Rattle.pool_journal.specs.Views.{Sees};
@@ -335,6 +335,7 @@ impl<J: Naming> Journal<J> {
         ensures gives { (n : TcState) → EntersTc J.start visitor.old.steps step.value n → GivesTc J.start visitor.new.steps n }
         ensures number { caller.new.number ≡ caller.old.number }
         ensures called { IsCalled caller.old.part step.value.event step.value.out caller.new.part }
+        ensures left { IsLeft caller.old.part.live (part_of caller.old.number result.value.before.steps).live }
     {
         let Journal {
             lines,

@@ -8,7 +8,7 @@ ghost use Rattle.node_sides.specs.node_laws.specs.Halves.{of_tc, TcLeads, TcTake
 ghost use Rattle.node_sides.specs.node_laws.specs.Messages.{message_at};
 ghost use Rattle.pool_journal.specs.Desks.{delivers};
 ghost use Rattle.pool_journal.specs.Marking.{announced, low_of, IsLowOf};
-ghost use Rattle.pool_journal.specs.Sessions.{IsCalled, IsClosed};
+ghost use Rattle.pool_journal.specs.Sessions.{IsCalled, IsClosed, IsLeft, part_of};
 ghost use Rattle.pool_journal.specs.Slots.{Shown};
 ghost use Rattle.pool_journal.specs.Steps.{GivesTc, tc_start, count, replies};
 ghost use Rattle.pool_journal.specs.Witnessed.{AreWitnessed, IsEntered, LeftBytes, RunsIn};
@@ -171,6 +171,8 @@ impl<J: Naming, D: CrashLog> TcDesk<J, D> {
         ensures event { result.value.step.value.event ≡ event }
         ensures number { caller.new.number ≡ caller.old.number }
         ensures called { IsCalled caller.old.part event result.value.step.value.out caller.new.part }
+        ensures own { result.value.step.value.caller ≡ Some caller.old.number }
+        ensures left { IsLeft caller.old.part.live (part_of caller.old.number result.value.before.steps).live }
     {
         let TcDesk {
             alloc,

@@ -4,7 +4,7 @@ ghost use Rattle.history.specs.ListMachine.{TellsAnswer, TellsRow, TellsRows, Te
 ghost use Rattle.marks.specs.Seen.{reader, seeing};
 ghost use Rattle.shared_node.specs.node_laws.specs.declared.event.Event.TheVariants as event;
 ghost use Rattle.shared_node.specs.node_laws.specs.declared.event.Out.TheVariants as out;
-ghost use Rattle.shared_node.specs.session_answers.specs.Answers.{AddsCall, AddsLiveCall, RefusedCall, RefusedBegin, Ends, IsUncalled};
+ghost use Rattle.shared_node.specs.session_answers.specs.Answers.{AddsCall, AddsLiveCall, RefusedCall, RefusedBegin, Ends, IsUncalled, ShowsBegun};
 ghost use Rattle.shared_node.specs.session_answers.specs.Again.{CarriesOn, IsSeenBy, RefusedAgain, Resumes};
 ghost use Rattle.shared_node.specs.session_answers.specs.Asking.{event_of};
 ghost use Rattle.shared_node.specs.pool_journal.specs.Sessions.{IsClosed};
@@ -104,11 +104,13 @@ impl<J: Naming, G: Gate + Drop, D: CrashLog + Drop, P: CrashPages + Drop> Sessio
         shared.hall().marks().read(seat)
     }
 
-    /// Begins a transaction, and answers its number. Refused Full where the session has one; else as its entry says.
+    /// Begins a transaction, and answers its number: right before its entry the session had none alive. Refused Full where
+    /// it has one; else as its entry says.
     pub fn begin<R: Wait>(&mut self, rt: &R) -> Result<u64, Refusal>
         ensures number { self.new.number ≡ self.old.number }
         ensures begun { IfOk result (λ t.
             AddsCall event.Begin (out.Begun t) None self.old.part self.new.part × (self.new.part.live ≡ Some t)) }
+        ensures alone { IfOk result (ShowsBegun J.entries self.old.number) }
         ensures refused { IfErr result (λ r. RefusedBegin self.old.part r self.new.part) }
     {
         let Session {

@@ -12,7 +12,7 @@ use Rattle.boxcar.specs.Table.{Shelves}
 use Rattle.session_answers.specs.declared.ended.Ended.{Ended}
 use Rattle.session_answers.specs.declared.ended.Ended.TheVariants as ended
 use Rattle.session_answers.specs.Asking.{is_answered}
-use Rattle.pool_journal.specs.Sessions.{IsCalled, LeavesLive, SessionCall, Part, called_as, calls, ends, is_pending, line_to}
+use Rattle.pool_journal.specs.Sessions.{IsCalled, LeavesLive, SessionCall, Part, called_as, calls, ends, is_pending, line_to, part_of}
 use Rattle.pool_journal.specs.Callers.{Awaits, IsToldBy, IsUntold}
 use Rattle.pool_journal.specs.Errands.{EndsWithFailure}
 use Rattle.pool_journal.specs.Failing.{refusal_of}
@@ -69,6 +69,24 @@ pub record CallsUntold (row : Shelves) (e : Event) (old : Part) (token : Slot) (
   pub shown : Shown row token
   pub event : token.value.step.value.event ≡ e
   pub called : IsCalled old e token.value.step.value.out new
+
+-- the entry of a session's Begin, right before which no transaction of the session was alive
+pub record BeginsAlone (session : ℕ) (token : Slot) : Type 0 where
+  pub event : token.value.step.value.event ≡ event.Begin
+  pub own : token.value.step.value.caller ≡ Some session
+  pub none : (part_of session token.value.before.steps).live ≡ None
+
+-- a Begin that ended at once did so
+abbrev pub BeganAlone : ℕ → Ended → Type 0
+BeganAlone session (ended.AtOnce p) = BeginsAlone session p
+BeganAlone session _ = ⊤
+
+-- the row shows such an entry, which was answered this number
+pub record ShowsBegun (row : Shelves) (session txn : ℕ) : Type 0 where
+  pub token : Slot
+  pub shown : Shown row token
+  pub begins : BeginsAlone session token
+  pub out : token.value.step.value.out ≡ out.Begun txn
 
 -- how a call with an entry ended, by what it adds to the session's list
 abbrev pub Ends : Shelves → Event → Part → Ended → Part → Type 0

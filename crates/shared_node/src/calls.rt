@@ -4,7 +4,7 @@ ghost use Rattle.session_answers.specs.pool_journal.specs.Sessions.{IsClosed, is
 ghost use Rattle.session_answers.specs.pool_journal.specs.Slots.{Shown};
 ghost use Rattle.session_answers.specs.node_laws.specs.declared.event.Event.TheVariants as event;
 ghost use Rattle.session_answers.specs.Again.{Resumes};
-ghost use Rattle.session_answers.specs.Answers.{Ends, Finishes, IsSecond, IsUncalled};
+ghost use Rattle.session_answers.specs.Answers.{BeganAlone, Ends, Finishes, IsSecond, IsUncalled};
 ghost use Rattle.session_answers.specs.Asking.{event_of};
 ghost use Rattle.session_answers.specs.Unfinished.{IsBetweenCalls, call_in, left_by};
 
@@ -89,6 +89,7 @@ impl<J: Naming, G: Gate, D: CrashLog, P: CrashPages> Shared<J, G, D, P> {
         ensures none { IfNone result (IsSecond caller.old.part caller.new.part) }
         ensures ends { IfSome result (λ ended.
             Ends J.entries event.Begin caller.old.part ended caller.new.part) }
+        ensures alone { IfSome result (BeganAlone caller.old.number) }
     {
         let _ = free(rt, &self.entrance.board, caller, unfinished);
         if let Some(_) = &*unfinished {

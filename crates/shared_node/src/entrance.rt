@@ -8,7 +8,7 @@ ghost use Rattle.session_answers.specs.pool_journal.specs.Desks.{delivers};
 ghost use Rattle.session_answers.specs.pool_journal.specs.Sessions.{IsClosed};
 ghost use Rattle.session_answers.specs.pool_journal.specs.Slots.{Shown};
 ghost use Rattle.session_answers.specs.pool_journal.specs.Witnessed.{IsEntered, LeftBytes, TcRan};
-ghost use Rattle.session_answers.specs.Answers.{CallsUntold, IsUnasked, IsSecond};
+ghost use Rattle.session_answers.specs.Answers.{BeginsAlone, CallsUntold, IsUnasked, IsSecond};
 ghost use Rattle.session_answers.specs.Asking.{event_of};
 
 use crate::board::Board;
@@ -86,6 +86,7 @@ impl<J: Naming, D: CrashLog> Entrance<J, D> {
         ensures none { IfNone result (IsSecond caller.old.part caller.new.part) }
         ensures calls { IfSome result (λ token.
             CallsUntold J.entries event.Begin caller.old.part token caller.new.part) }
+        ensures alone { IfSome result (λ token. BeginsAlone caller.old.number token) }
         ensures closed { IfNone result (IsClosed caller.new.part) }
     {
         let Entrance { board, tc } = self;

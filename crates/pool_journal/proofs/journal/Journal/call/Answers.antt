@@ -7,11 +7,11 @@ use Rattle.pool_journal.specs.declared.step.Step.{Step}
 use Rattle.pool_journal.specs.Callers.{CallerView}
 use Rattle.pool_journal.specs.Kept.{PlaceKept, PlacesKept, calls_of, place_after}
 use Rattle.pool_journal.specs.Errands.{errand_of}
-use Rattle.pool_journal.specs.Sessions.{IsCalled, live_after, is_pending, part_of, IsClosed}
+use Rattle.pool_journal.specs.Sessions.{IsCalled, IsLeft, live_after, is_pending, part_of, IsClosed}
 use Rattle.pool_journal.specs.Slots.{Slot, through}
 use Rattle.pool_journal.specs.Views.{View, Sees}
 use Rattle.pool_journal.proofs.Entering.{own_place, places_called, part_called, calls_same}
-use Rattle.pool_journal.proofs.Parts.{called_kept}
+use Rattle.pool_journal.proofs.Parts.{called_kept, grown}
 use Rattle.pool_journal.proofs.journal.Journal.call.Goals as goal
 
 pub meet-requires-clause-name : goal.meet-requires-clause-name
@@ -105,3 +105,26 @@ returns-clause-called g c =
     (part_of n c.meet.new.visitor.steps)) c.caller.view_is
     (part_called n c.caller.inside.visitor.steps s.lines c.meet.new.visitor.steps c.args.step.value
     (c.requires.own ∙ ap (λ (m : ℕ). Some m) number) sees closed now)
+
+-- between calls the session's transaction stays or is gone
+pub returns-clause-left : goal.returns-clause-left
+returns-clause-left g c =
+    let J = g.J.Naming in
+    let s = c.self.inside in
+    let n = c.caller.inside.number in
+    let token = c.enter_tc-token.result in
+    let p = c.index_mut-place.result.now in
+    let less : n < length c.hear_all.new.places.items = search rules in
+    let there = slice_get_read c.hear_all.new.places.items
+    (length c.hear_all.new.places.items) n p refl less c.index_mut-place.ensures.value in
+    let at : slice_get (map (place_after token) s.places.items) n ≡ Some p =
+    subst (λ (ps : List (Place g.row.J.Denot)). slice_get ps n ≡ Some p) c.hear_all.ensures.heard there in
+    let number : c.args.caller.now.number ≡ n = ap (λ (v : CallerView). v.number) (sym c.caller.view_is) in
+    let own : token.value.step.value.caller ≡ Some n =
+    ap (λ (x : Step). x.caller) c.enter_tc-token.ensures.value ∙ c.requires.own ∙ ap (λ (m : ℕ). Some m) number in
+    let k = own_place J.entries J.names s.lines s.places.items token n p c.self.invariant.0 own at in
+    let sees : Sees (calls_of n) c.caller.inside.visitor.steps s.lines =
+    subst (λ (v : View). Sees (calls_of n) v.steps s.lines) c.meet.ensures.same k.sees in
+    subst (λ (v : CallerView). IsLeft v.part.live (part_of v.number token.value.before.steps).live) c.caller.view_is
+    (subst (λ (es : List Step). IsLeft (part_of n c.caller.inside.visitor.steps).live (part_of n es).live)
+    (sym c.enter_tc-token.ensures.before) (grown n c.caller.inside.visitor.steps s.lines sees).live)
