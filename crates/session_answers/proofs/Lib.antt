@@ -1,3 +1,4 @@
 pub mod Telling
 pub mod Ending
 pub mod Resuming
+pub mod Beginning
