@@ -230,9 +230,9 @@ runs start es t u is a b =
     record { chain = m.chain; kept = m.kept; requests = refl; replies = refl }
 
 -- and leaves, once its messages are let go
-pub leaves : (start : Start) (es : List Step) (t : TcState) (u : DcState) → IsStart start → GivesTc start es t → GivesDc start es u
+pub leaves_node : (start : Start) (es : List Step) (t : TcState) (u : DcState) → IsStart start → GivesTc start es t → GivesDc start es u
     → LeavesNode start es (node_of t.side u.side [] [])
-leaves start es t u is a b =
+leaves_node start es t u is a b =
     record { node = node_of t.side u.side (requests es) (replies es); runs = runs start es t u is a b; left_is = refl }
 
 pub in_run : (start : Start) (es : List Step) (t : TcState) (u : DcState) → IsStart start → GivesTc start es t → GivesDc start es u

@@ -27,7 +27,7 @@ use Rattle.pool_journal.specs.Slots.{Slot, step_at, steps, asks, gives, through,
 use Rattle.pool_journal.specs.Steps.{is_tc, requests, replies, TcState, DcState, Start, IsStart, GivesTc, GivesDc, RunsFrom}
 use Rattle.pool_journal.specs.Views.{View, Sees}
 use Rattle.pool_journal.proofs.Lists.{all_snoc, all_map, kept_at, last_snoc, filter_snoc, request_of, reply_of}
-use Rattle.pool_journal.proofs.Along.{tc_on, dc_on, tc_entered, dc_entered, runs, leaves, in_run, spelled}
+use Rattle.pool_journal.proofs.Along.{tc_on, dc_on, tc_entered, dc_entered, runs, leaves_node, in_run, spelled}
 use Rattle.pool_journal.proofs.Failures.{forgotten, none_since}
 use Rattle.pool_journal.proofs.Parts.{heard_kept, grown, part_snoc, after_called, closed_on, ended}
 
@@ -213,7 +213,7 @@ module _ (start : Start) (row : Shelves) (names : ℕ → ℕ) where
   pub lines_leave : (tokens asked given : List Slot) (tc dc : View) (t : TcState) (u : DcState)
       → LinesKept start row names tokens asked given tc dc → GivesTc start (steps tokens) t → GivesDc start (steps tokens) u
       → LeavesNode start (steps tokens) (node_of t.side u.side [] [])
-  lines_leave tokens asked given tc dc t u k a b = leaves start (steps tokens) t u k.starts a b
+  lines_leave tokens asked given tc dc t u k a b = leaves_node start (steps tokens) t u k.starts a b
 
 calls_other : (o : Option ℕ) (n s : ℕ) → o ≡ Some n → (s ≡ n → ⊥) → calls_as o s ≡ false
 calls_other o n s is other =

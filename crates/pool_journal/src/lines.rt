@@ -133,7 +133,9 @@ impl<J: Naming> Lines<J> {
         requires dc { (given : ℕ) × GivesDc J.start self.now record { side = dc.now; given = given } }
         ensures { LeavesNode J.start self.now (node_of tc.now dc.now [] []) }
     {
-        let _ = (&self.tokens, tc, dc);
+        let _ = &self.tokens;
+        let _ = tc;
+        let _ = dc;
     }
 
     /// How many entries there are.

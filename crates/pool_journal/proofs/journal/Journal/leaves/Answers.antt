@@ -5,11 +5,11 @@ use Rattle.pool_journal.specs.Ending.{LeavesNode}
 use Rattle.pool_journal.specs.Steps.{TcState, DcState, GivesTc, GivesDc}
 use Rattle.pool_journal.proofs.journal.Journal.leaves.Goals as goal
 
-pub requires_of-leaves-clause-tc : goal.requires_of-leaves-clause-tc
-requires_of-leaves-clause-tc g c = rw c.self.view_is c.requires.tc
+pub leaves-requires-clause-tc : goal.leaves-requires-clause-tc
+leaves-requires-clause-tc g c = rw c.self.view_is c.requires.tc
 
-pub requires_of-leaves-clause-dc : goal.requires_of-leaves-clause-dc
-requires_of-leaves-clause-dc g c = rw c.self.view_is c.requires.dc
+pub leaves-requires-clause-dc : goal.leaves-requires-clause-dc
+leaves-requires-clause-dc g c = rw c.self.view_is c.requires.dc
 
 pub returns : goal.returns
 returns g c =
