@@ -1,0 +1,4 @@
+pub mod Replay
+pub mod Serial
+pub mod Alone
+pub mod Laws
