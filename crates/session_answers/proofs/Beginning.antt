@@ -16,7 +16,7 @@ none_left old new none (inr gone) = gone
 -- the entry is that of the call that has ended
 pub began_alone : (row : Shelves) (token : Slot) (old : Part) (e : Ended) (new : Part) (session : ℕ) → BeginsAlone session token
     → Finishes row token old e new → BeganAlone session e
-began_alone row token old (ended.AtOnce p) new session begins ends = subst (BeginsAlone session) (sym ends.1.0) begins
+began_alone row token old (ended.AtOnce p) new session begins ends = subst (BeginsAlone session) (sym ends.1) begins
 began_alone row token old (ended.Told p q) new session begins ends = tt
 began_alone row token old (ended.Unfinished u f) new session begins ends = tt
 began_alone row token old ended.CutOff new session begins ends = tt
