@@ -62,7 +62,7 @@ force""".split("\n")
 def run(shell, store, script):
     """What the shell prints of the script and to standard error, and its exit status: None where it doesn't end."""
     try:
-        done = subprocess.run([shell, "run", "--store", store], input=script, capture_output=True, timeout=20)
+        done = subprocess.run([shell, "run", "--create", "--store", store], input=script, capture_output=True, timeout=20)
     except subprocess.TimeoutExpired:
         return b"", "", None
     return done.stdout, done.stderr.decode(errors="replace"), done.returncode

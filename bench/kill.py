@@ -6,10 +6,10 @@ doesn't live to end: it is killed by SIGKILL after a random time, or once it has
 printed is compared with a plain model (store_model.py): each answer, row and table, and after the next opening that
 every commit that was told is there, that nothing is there of a transaction that hasn't committed, and that the node
 settles. Each twentieth run begins a new store, and half of these are killed while they make it. In each fourth run the
-log's file can't grow beyond some size, and forces fail. Before each third run the store's log is written anew, by a
-process that most times is killed amid that. At times a second shell is started beside the first, and must be refused the
-store. Prints a count; where something differs, what, and the folder
-that has the script, the text and the store, exit status 1.
+log's file can't grow beyond some size, and forces fail: standard error may say so then, and of what else may befall a
+run. Before each third run the store's log is written anew, by a process that most times is killed amid that. At times a
+second shell is started beside the first, and must be refused the store. Prints a count; where something differs, what,
+and the folder that has the script, the text and the store, exit status 1.
 A kill takes no byte from the system that was handed to it, so this shows nothing of a machine that stops.
 """
 import os
@@ -31,7 +31,10 @@ LONGEST = 1.5  # seconds of a run
 MAKING = 0.02  # seconds in which a store is made
 COMPACTING = 0.02  # seconds in which a log is written anew
 EACH = 20  # runs on a store
-TORN = re.compile(r"undo_shell: .*: a torn block of [0-9]+ bytes at byte [0-9]+ is left out")
+# What a run may say on standard error, a line each.
+TOLD = re.compile(r"undo_shell: (.*: a torn block of [0-9]+ bytes at byte [0-9]+ is left out|NotConnected: .*)")
+UNWRITTEN = re.compile(r"undo_shell: .*: cannot (write|sync) the store's file `log`: File too large.*")
+NO_STORE = b"no store: "
 
 
 class Run:
@@ -41,12 +44,13 @@ class Run:
         with tempfile.TemporaryFile() as given:
             given.write("\n".join(script).encode())
             given.seek(0)
-            process = subprocess.Popen([shell, "run", "--continue", "--store", store], stdin=given,
+            process = subprocess.Popen([shell, "run", "--continue", "--create", "--store", store], stdin=given,
                                        stdout=subprocess.PIPE, stderr=subprocess.PIPE, restore_signals=False)
         timer = threading.Timer(chance.uniform(0, longest), process.kill)
         most = chance.choice([None, chance.randrange(1, LINES)])
         has_second = chance.random() < 0.05
         self.second_ran = False
+        self.is_limited = room is not None
         printed = []
         timer.start()
         for line in process.stdout:
@@ -66,7 +70,10 @@ class Run:
         process.stderr.close()
 
     def check(self):
-        if self.status not in (-signal.SIGKILL, 0, 3) or self.fault and not TORN.fullmatch(self.fault):
+        for line in self.fault.splitlines():
+            if not TOLD.fullmatch(line) and not (self.is_limited and UNWRITTEN.fullmatch(line)):
+                raise Differs(f"exit status {self.status}: {self.fault}")
+        if self.status not in (-signal.SIGKILL, 0, 3):
             raise Differs(f"exit status {self.status}: {self.fault}")
         if self.second_ran:
             raise Differs("a second shell wasn't refused the store")
@@ -89,15 +96,26 @@ def runs_beside(shell, store, process):
 
 
 def compact(shell, store, chance):
-    """Writes the log anew, or is killed before that is done. Gives whether it was done."""
+    """Writes the log anew, or is killed before that is done. Gives whether it was done. Where a kill came while the store
+    was made there may be none."""
     process = subprocess.Popen([shell, "compact", "--store", store], stdout=subprocess.PIPE, stderr=subprocess.PIPE)
     timer = threading.Timer(chance.choice([COMPACTING, 60]) * chance.random(), process.kill)
     timer.start()
     _, fault = process.communicate()
     timer.cancel()
+    if process.returncode == 2 and NO_STORE in fault and not is_made(store):
+        return False
     if process.returncode not in (-signal.SIGKILL, 0) or fault and b"torn block" not in fault:
         raise Differs(f"compact: exit status {process.returncode}: {fault.decode(errors='replace')}")
     return process.returncode == 0
+
+
+def is_made(store):
+    """Whether the folder has a store: its mark has a number, which takes 33 bytes."""
+    try:
+        return os.path.getsize(os.path.join(store, "store")) >= 33
+    except FileNotFoundError:
+        return False
 
 
 def main(shell, runs, seed):

@@ -29,7 +29,7 @@ def script(commits, keys, each):
 
 
 def make(program, store, commits, keys, each):
-    shell = subprocess.Popen([program, "run", "--store", store], stdin=subprocess.PIPE, stdout=subprocess.DEVNULL)
+    shell = subprocess.Popen([program, "run", "--create", "--store", store], stdin=subprocess.PIPE, stdout=subprocess.DEVNULL)
     for lines in script(commits, keys, each):
         shell.stdin.write(lines.encode())
     shell.stdin.close()

@@ -29,7 +29,7 @@ def script(commits):
 
 def shell(program, store, text):
     start = time.monotonic()
-    ran = subprocess.run([program, "run", "--store", store], input=text.encode(), capture_output=True)
+    ran = subprocess.run([program, "run", "--create", "--store", store], input=text.encode(), capture_output=True)
     took = time.monotonic() - start
     if ran.returncode:
         sys.exit(f"{program}: status {ran.returncode}: {ran.stdout[-200:]} {ran.stderr[-200:]}")

@@ -1,7 +1,8 @@
 #!/bin/sh
 # Usage: tests/built.sh [SHELL]. What no proved crate can try, since it starts other programs: the built shell (without
 # SHELL the one that the gate has built) is killed amid scripts on a store (bench/kill.py, forty runs), opens damaged
-# stores (bench/damage.py), and lists in its help what docs/FORMATS.md lists (tests/help.sh). Takes a minute.
+# stores (bench/damage.py), lists in its help what docs/FORMATS.md lists (tests/help.sh), and tells on standard error what
+# it is to (tests/told.py). Takes a minute.
 set -eu
 cd "$(dirname "$0")/.."
 shell=${1:-crates/undo_shell/out/undo_shell}
@@ -11,3 +12,4 @@ fi
 python3 bench/kill.py "$shell" 40
 python3 bench/damage.py "$shell"
 tests/help.sh "$shell"
+python3 tests/told.py "$shell"

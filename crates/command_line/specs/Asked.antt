@@ -21,13 +21,14 @@ most_number = 281474976710655
 abbrev pub MayCount : List Row → Text → Type 0
 MayCount rows option = (one_of option rows ≡ None) ⊎ NamesCount rows option most_number
 
--- the words may ask for a script, run, explained or drawn, for clients, or for a log that is written anew
+-- the words may ask for a script, run, explained or drawn, for clients, or for a store, compacted or checked
 abbrev pub MayAskFor : Option (Text × List Row) → Type 0
 MayAskFor None = ⊥
 MayAskFor (Some s) = (s.0 ≡ codes "run")
     ⊎ (((s.0 ≡ codes "pool") × NamesCount s.1 (codes "sessions") 8 × NamesCount s.1 (codes "rounds") 99)
     ⊎ (((s.0 ≡ codes "explain") × MayCount s.1 (codes "at"))
-    ⊎ (((s.0 ≡ codes "draw") × MayCount s.1 (codes "last")) ⊎ (s.0 ≡ codes "compact"))))
+    ⊎ (((s.0 ≡ codes "draw") × MayCount s.1 (codes "last"))
+    ⊎ ((s.0 ≡ codes "compact") ⊎ (s.0 ≡ codes "check")))))
 
 -- it is this number
 pub record IsGivenNumber (rows : List Row) (option : Text) (n : ℕ) : Type 0 where
@@ -57,10 +58,12 @@ IsGivenText rows option name = option_map (λ text. text.now) name ≡ first_of 
 -- the task is what they ask for
 abbrev pub AsksFor : Option (Text × List Row) → Task → Type 0
 AsksFor None t = ⊥
-AsksFor (Some s) (task.Run continues store reads_only) = (s.0 ≡ codes "run")
+AsksFor (Some s) (task.Run continues store reads_only creates strict) = (s.0 ≡ codes "run")
     × IsSet s.1 (codes "continue") continues × IsGivenText s.1 (codes "store") store
-    × IsSet s.1 (codes "read-only") reads_only
+    × IsSet s.1 (codes "read-only") reads_only × IsSet s.1 (codes "create") creates
+    × IsSet s.1 (codes "strict") strict
 AsksFor (Some s) (task.Compact store) = (s.0 ≡ codes "compact") × IsGivenText s.1 (codes "store") store
+AsksFor (Some s) (task.Check store) = (s.0 ≡ codes "check") × IsGivenText s.1 (codes "store") store
 AsksFor (Some s) (task.Pool sessions rounds) = (s.0 ≡ codes "pool")
     × IsCount s.1 (codes "sessions") 8 sessions × IsCount s.1 (codes "rounds") 99 rounds
 AsksFor (Some s) (task.Explain at) = (s.0 ≡ codes "explain") × IsGivenCount s.1 (codes "at") at
@@ -68,8 +71,9 @@ AsksFor (Some s) (task.Draw last) = (s.0 ≡ codes "draw") × IsGivenCount s.1 (
 
 -- it is a script or a store, or there is a client
 abbrev pub HasClient : Task → Type 0
-HasClient (task.Run continues store reads_only) = ⊤
+HasClient (task.Run continues store reads_only creates strict) = ⊤
 HasClient (task.Compact store) = ⊤
+HasClient (task.Check store) = ⊤
 HasClient (task.Pool sessions rounds) = 0 < sessions
 HasClient (task.Explain at) = ⊤
 HasClient (task.Draw last) = ⊤

@@ -8,9 +8,10 @@ use Rattle.clap.specs.declared.builder.action.ArgAction.TheVariants.{SetTrue}
 use Rattle.clap.specs.declared.builder.value_parser.ValueParser.TheVariants.{NonEmptyString, Unsigned}
 use Rattle.command_line.specs.Asked.{most_number}
 
--- the program, which must be told what to do
+-- the program, which has a version and must be told what to do
 abbrev pub program : App
-program = on_top (λ s. record s { subcommand_required = true }) (new_app (codes "undo_shell"))
+program =
+    on_top (λ s. record s { subcommand_required = true; has_version = true }) (new_app (codes "undo_shell"))
 
 -- an option that is a number from 1 to the most, this one where the words give none
 abbrev pub counting : Text → ℕ → Text → Rule
@@ -52,13 +53,29 @@ storing = naming (codes "store")
 abbrev pub reading : Rule
 reading = flag_option (codes "read-only")
 
+-- it is made where it isn't there
+abbrev pub creating : Rule
+creating = flag_option (codes "create")
+
+-- the lines that were refused are counted
+abbrev pub counting_refusals : Rule
+counting_refusals = flag_option (codes "strict")
+
+-- to run a script, without these two
+abbrev pub plain_run : App
+plain_run = with_rule (with_rule (with_rule (new_app (codes "run")) continuing) storing) reading
+
 -- to run a script
 abbrev pub run : App
-run = with_rule (with_rule (with_rule (new_app (codes "run")) continuing) storing) reading
+run = with_rule (with_rule plain_run creating) counting_refusals
 
 -- to write the log of a store anew
 abbrev pub compact : App
 compact = with_rule (new_app (codes "compact")) storing
+
+-- to look at a store
+abbrev pub check : App
+check = with_rule (new_app (codes "check")) storing
 
 -- to let clients play on threads
 abbrev pub pool : App
@@ -88,15 +105,15 @@ last = numbering (codes "last")
 abbrev pub draw : App
 draw = with_rule (new_app (codes "draw")) last
 
--- the program and all that it may be told: `run`, `pool`, `explain`, `draw` or `compact`
+-- the program and all that it may be told: `run`, `pool`, `explain`, `draw`, `compact` or `check`
 abbrev pub command_line : App
-command_line = with_subcommand
+command_line = with_subcommand (with_subcommand
     (with_subcommand (with_subcommand (with_subcommand (with_subcommand program run.top) pool.top) explain.top) draw.top)
-    compact.top
+    compact.top) check.top
 
 -- what it may be told to do
 abbrev pub subcommands : List Shape
-subcommands = run.top ∷ pool.top ∷ explain.top ∷ draw.top ∷ compact.top ∷ []
+subcommands = run.top ∷ pool.top ∷ explain.top ∷ draw.top ∷ compact.top ∷ check.top ∷ []
 
 -- it hands no argument down to subcommands
 abbrev pub IsLocal : Command → Type 0

@@ -7,7 +7,7 @@ ghost use Rattle.clap.specs.Matches.{found_of};
 ghost use Rattle.clap.specs.Simple.{app_of, shape_of, subcommand_of, subcommand_rows_of};
 ghost use Rattle.clap.specs.Walk.{rows_of, rule_of};
 ghost use Rattle.command_line.specs.Asked.{AsksFor, HasClient, IsGivenCount, IsGivenNumber, MayAskFor, MayCount, NamesCount};
-ghost use Rattle.command_line.specs.CommandLine.{IsLocal, command_line, compact, counting, draw, explain, flag_option, naming, numbering, pool, run, subcommands};
+ghost use Rattle.command_line.specs.CommandLine.{IsLocal, check, command_line, compact, counting, draw, explain, flag_option, naming, numbering, plain_run, pool, run, subcommands};
 
 use clap::builder::ValueParser;
 use clap::{Arg, ArgAction, ArgMatches, Command, Error};
@@ -18,15 +18,22 @@ use std::convert::AsStr;
 #[derive(Debug, Clone, Copy, PartialEq, Eq)]
 pub enum Task<'a> {
     /// A script is read from standard input and run, also on behind a line in which memory or a device failed where it
-    /// continues. The node is that of the store in this folder where there is one, else a new one in memory; where it is
-    /// to be read only, nothing is written to the store.
+    /// continues. The node is that of the store in this folder where one is named, else a new one in memory; where it is
+    /// to be read only, nothing is written to the store, and where it may be created, it is made if it isn't there. A
+    /// strict run tells how many lines were refused.
     Run {
         continues: bool,
         store: Option<&'a str>,
         reads_only: bool,
+        creates: bool,
+        strict: bool,
     },
     /// The log of the store in this folder is written anew, with just the records that stand.
     Compact {
+        store: Option<&'a str>,
+    },
+    /// The store in this folder is looked at, and nothing of it is changed.
+    Check {
         store: Option<&'a str>,
     },
     /// So many clients, each with a session of its own, play so many rounds on threads.
@@ -43,6 +50,9 @@ pub enum Task<'a> {
         last: Option<u64>,
     },
 }
+
+/// The version of the program.
+const VERSION: &str = "0.9.0";
 
 const LINES: &str = "\
 A script is lines; empty lines and lines that begin with # are skipped.
@@ -95,10 +105,12 @@ number, the greatest part first. N is a decimal number below 2 to the power of 4
 or of 64 where it is added; of a call it is at least 1. C is tc, the transaction
 component, or dc, the data component. D is tclog or dclog, the log of either, or pages,
 the pages of the data component's leaves. Words are separated by one space. The whole
-script is checked before its first line is run.
+script is checked before its first line is run. A second begin T gives the label to
+another transaction: no line can name the first one then, which keeps its locks.
 
 Exit status: 0; 2 for a line or a command line outside the grammar, and for a store
-that can't be opened; 3 where memory or a device failed.";
+that can't be opened; 3 where memory or a device failed; else, with --strict, 4 where
+a line was refused.";
 
 const CLIENTS: &str = "\
 Client S writes the round's number to the record sS, inserts it as the record sSrR for
@@ -133,6 +145,18 @@ const STORING: &str = "Keeps the log in this folder, and goes on where the last 
 
 const READING: &str =
     "Opens the store without a lock and writes nothing to it: what the script does is lost";
+
+const CREATING: &str = "Makes the store if it isn't there";
+
+const STRICT: &str = "Tells how many lines were refused, and ends with status 4 if any was";
+
+const CHECKED: &str = "\
+It is opened as run --read-only does: without a lock, and nothing is written. What stands
+in the log is counted, and what an opening would undo, and how long the log would be if
+it were compacted.
+
+Exit status: 0; 2 for a command line outside the grammar, and for a store that can't be
+opened; 3 where memory failed.";
 
 const COMPACTED: &str = "\
 The store's log then has the records that stand, and nothing of how they came about. Whoever
@@ -184,11 +208,18 @@ fn task_of<'a>(matches: &ArgMatches<'a>) -> Task<'a>
             store: asked.get_str("store"),
         };
     }
+    if let Some(asked) = matches.subcommand_matches("check") {
+        return Task::Check {
+            store: asked.get_str("store"),
+        };
+    }
     match matches.subcommand_matches("run") {
         Some(asked) => Task::Run {
             continues: asked.get_flag("continue"),
             store: asked.get_str("store"),
             reads_only: asked.get_flag("read-only"),
+            creates: asked.get_flag("create"),
+            strict: asked.get_flag("strict"),
         },
         None => unreachable!(),
     }
@@ -223,6 +254,7 @@ fn command_line<'a>(alloc: Global) -> Result<Command<'a>, AllocError>
     let subcommands = subcommands(alloc)?;
     Command::new(alloc, "undo_shell")
         .about("A database kernel in two components that undoes by logged compensations")
+        .version(VERSION)
         .after_help(LINES)
         .subcommand_required(true)
         .subcommands(subcommands)
@@ -234,19 +266,30 @@ fn subcommands<'a>(alloc: Global) -> Result<Vec<Command<'a>>, AllocError>
     ensures local { IfOk result (λ commands. AllByRecursion IsLocal commands.items) }
     ensures shapes { IfOk result (λ commands. map shape_of commands.items ≡ subcommands) }
 {
-    let mut commands = Vec::with_capacity(alloc, 5)?;
+    let mut commands = Vec::with_capacity(alloc, 6)?;
     commands.push(run_command(alloc)?)?;
     commands.push(pool_command(alloc)?)?;
     commands.push(explain_command(alloc)?)?;
     commands.push(draw_command(alloc)?)?;
     commands.push(compact_command(alloc)?)?;
+    commands.push(check_command(alloc)?)?;
     Ok(commands)
 }
 
-// What runs a script.
+// What runs a script. (Five options of one command are dear to check.)
 fn run_command<'a>(alloc: Global) -> Result<Command<'a>, AllocError>
     ensures local { IfOk result IsLocal }
     ensures app { IfOk result (λ command. app_of command ≡ run) }
+{
+    let command = plain_run(alloc)?;
+    command
+        .arg(flag_option(alloc, "create").help(CREATING))?
+        .arg(flag_option(alloc, "strict").help(STRICT))
+}
+
+fn plain_run<'a>(alloc: Global) -> Result<Command<'a>, AllocError>
+    ensures local { IfOk result IsLocal }
+    ensures app { IfOk result (λ command. app_of command ≡ plain_run) }
 {
     Command::new(alloc, "run")
         .about("Reads a script from standard input and prints what its lines came to")
@@ -265,6 +308,18 @@ fn compact_command<'a>(alloc: Global) -> Result<Command<'a>, AllocError>
     Command::new(alloc, "compact")
         .about("Writes the log of a store anew, with just the records that stand")
         .after_help(COMPACTED)
+        .arg(store)
+}
+
+// What looks at a store.
+fn check_command<'a>(alloc: Global) -> Result<Command<'a>, AllocError>
+    ensures local { IfOk result IsLocal }
+    ensures app { IfOk result (λ command. app_of command ≡ check) }
+{
+    let store = naming(alloc, "store", "FOLDER").help("The folder of the store");
+    Command::new(alloc, "check")
+        .about("Says whether a store can be opened, and what its log has")
+        .after_help(CHECKED)
         .arg(store)
 }
 
@@ -304,7 +359,7 @@ fn draw_command<'a>(alloc: Global) -> Result<Command<'a>, AllocError>
         .arg(last)
 }
 
-// An option that is there or not.
+// A flag: an option that is there or not.
 fn flag_option<'a>(alloc: Global, name: &'a str) -> Arg<'a>
     ensures global { result.global ≡ false }
     ensures rule { rule_of result ≡ flag_option name.entry.now }

@@ -3,10 +3,11 @@ ghost use Rattle.std.specs.Prelude.{◌≡◌, ◌≤◌, [], OnOk};
 ghost use Rattle.file_devices.specs.Failing.{freely_unused};
 
 use crate::faults::Faults;
+use crate::first_failure::FirstFailure;
 use crate::log_file::LogFile;
+use crate::store_error::StoreError;
 use stable::{CrashLog, DeviceError, LogDevice, Spelling};
 use std::alloc::Global;
-use std::io;
 use std::marker::Model;
 
 /// All bytes of a log in memory, and a file that each force brings up to them. The system may refuse any call, and then
@@ -86,6 +87,15 @@ impl FileLog {
     /// The torn block that the opening has left out. The next force or cut takes it from the file.
     pub fn torn(&self) -> Option<Torn> {
         self.torn
+    }
+
+    /// What the system first refuses of the file, of a log that has one: to be taken before a node has the log. None too
+    /// where there are more who ask than can be counted.
+    pub fn failure(&self) -> Option<FirstFailure> {
+        match &self.file {
+            Some(file) => file.failure().ok(),
+            None => None,
+        }
     }
 }
 
@@ -170,14 +180,14 @@ impl CrashLog for FileLog {
     }
 }
 
-fn extend(file: &mut Option<LogFile>, at: usize, bytes: &[u8]) -> io::Result<()> {
+fn extend(file: &mut Option<LogFile>, at: usize, bytes: &[u8]) -> Result<(), StoreError> {
     match file {
         Some(file) => file.extend(at, bytes),
         None => Ok(()),
     }
 }
 
-fn cut(file: &mut Option<LogFile>, written: &mut usize, len: usize) -> io::Result<()>
+fn cut(file: &mut Option<LogFile>, written: &mut usize, len: usize) -> Result<(), StoreError>
     ensures fewer { written.new ≤ written.old }
     ensures cut { OnOk result (written.new ≤ len) }
 {

@@ -5,8 +5,10 @@
 //! written since; a store is open once at a time; no page is ever said to be written.
 #![tactic(auto)]
 
+mod blocks;
 mod faults;
 mod file_log;
+mod first_failure;
 mod folder;
 mod log_file;
 mod mark;
@@ -15,8 +17,10 @@ mod renewal;
 mod store;
 mod store_error;
 
+pub use blocks::{count_blocks, place_in_file};
 pub use file_log::{FileLog, Torn};
+pub use first_failure::FirstFailure;
 pub use no_pages::NoPages;
 pub use renewal::replace_log;
-pub use store::{open_store, read_store};
+pub use store::{open_store, read_store, reopen_store};
 pub use store_error::{StoreError, StoreFile, Tried};

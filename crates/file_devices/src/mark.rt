@@ -59,7 +59,7 @@ pub(crate) struct MarkFile {
 
 impl MarkFile {
     /// Before a block is written.
-    pub(crate) fn prepare(&mut self) -> io::Result<()> {
+    pub(crate) fn prepare(&mut self) -> Result<(), StoreError> {
         if self.due == Due::Text {
             self.put(&text_of(OLD_NUMBER), 0)?;
         }
@@ -67,16 +67,16 @@ impl MarkFile {
     }
 
     /// Behind a block that was forced.
-    pub(crate) fn complete(&mut self) -> io::Result<()> {
+    pub(crate) fn complete(&mut self) -> Result<(), StoreError> {
         if self.due == Due::LineEnd {
             self.put(b"\n", DIGITS_END as u64)?;
         }
         Ok(())
     }
 
-    fn put(&mut self, text: &[u8], at: u64) -> io::Result<()> {
-        self.file.write_all_at(text, at)?;
-        self.file.sync_all()?;
+    fn put(&mut self, text: &[u8], at: u64) -> Result<(), StoreError> {
+        self.file.write_all_at(text, at).map_err(not_written)?;
+        self.file.sync_all().map_err(not_synced)?;
         self.due = Due::Nothing;
         Ok(())
     }
@@ -88,15 +88,11 @@ impl MarkFile {
             StoreFile::Random,
             cause,
         ))?;
-        self.put_number(number).map_err(|cause| StoreError::new(
-            Tried::Write,
-            StoreFile::Mark,
-            cause,
-        ))?;
+        self.put_number(number)?;
         Ok(number)
     }
 
-    fn put_number(&mut self, number: u64) -> io::Result<()> {
+    fn put_number(&mut self, number: u64) -> Result<(), StoreError> {
         let text = text_of(number);
         self.put(&text[..DIGITS_END], 0)?;
         self.due = Due::LineEnd;
@@ -106,18 +102,14 @@ impl MarkFile {
     /// Takes the text as it stands, which is synced first: who wrote it may have been killed before its sync. Behind a
     /// block the end of the line is written, if a kill has come before it.
     pub(crate) fn take(&mut self, mark: Mark, has_block: bool) -> Result<(), StoreError> {
-        self.file.sync_all().map_err(|cause| StoreError::new(Tried::Sync, StoreFile::Mark, cause))?;
+        self.file.sync_all().map_err(not_synced)?;
         self.due = match mark {
             Mark::Old => Due::Text,
             Mark::Numbered(_) => Due::LineEnd,
             _ => Due::Nothing,
         };
         if has_block {
-            return self.complete().map_err(|cause| StoreError::new(
-                Tried::Write,
-                StoreFile::Mark,
-                cause,
-            ));
+            return self.complete();
         }
         Ok(())
     }
@@ -125,6 +117,14 @@ impl MarkFile {
     pub(crate) fn read(&self, alloc: Global) -> Result<Mark, StoreError> {
         read(alloc, &self.file)
     }
+}
+
+fn not_written(cause: io::Error) -> StoreError {
+    StoreError::new(Tried::Write, StoreFile::Mark, cause)
+}
+
+fn not_synced(cause: io::Error) -> StoreError {
+    StoreError::new(Tried::Sync, StoreFile::Mark, cause)
 }
 
 /// Opens the file and locks it until it is closed. It is made in a folder that is empty, and never removed or replaced:

@@ -45,8 +45,28 @@ pub fn open_store<R: Files<File = File> + AllocGlobal + Clone + Drop>(
     }
     bytes.truncate(unpacked.len);
     let torn = torn_behind(&unpacked, len);
-    let file = LogFile::new(log, mark, unpacked.end, unpacked.sum, torn.is_some());
+    let file = LogFile::new(
+        rt.alloc(),
+        log,
+        mark,
+        unpacked.end,
+        unpacked.sum,
+        torn.is_some(),
+    )?;
     Ok(FileLog::over(Some(file), bytes, torn))
+}
+
+/// Opens the store of a folder that has one: where `open_store` would make it, or go on making it, this is refused
+/// NotAStore.
+pub fn reopen_store<R: Files<File = File> + AllocGlobal + Clone + Drop>(
+    rt: &R,
+    folder: &str,
+) -> Result<FileLog, StoreError>
+    ensures pending { IfOk result (λ log. log.pending ≡ []) }
+    ensures unused { IfOk result (λ log. log.usage ≡ freely_unused) }
+{
+    read_mark(rt, folder)?;
+    open_store(rt, folder)
 }
 
 /// Reads the store of a folder and gives its log, for reading alone: no file keeps what is forced on it. It takes no lock,
@@ -132,6 +152,15 @@ fn begin<R: Files<File = File> + AllocGlobal + Clone + Drop>(
     }
     folder::sync(rt, folder)?;
     Ok(log)
+}
+
+/// All bytes of the file of the log in a folder.
+pub(crate) fn read_log<R: Files<File = File> + AllocGlobal>(
+    rt: &R,
+    folder: &str,
+) -> Result<Vec<u8>, StoreError> {
+    let mut log = open_log(rt, folder, Way::Read)?;
+    read(rt.alloc(), &mut log)
 }
 
 fn open_log<R: Files<File = File> + AllocGlobal>(

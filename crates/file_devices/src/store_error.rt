@@ -1,5 +1,6 @@
 //! Why a store isn't opened.
 use log_blocks::Damaged;
+use std::alloc::AllocError;
 use std::{fmt, io};
 use thiserror::Error;
 
@@ -8,8 +9,9 @@ pub enum StoreError {
     /// Another opening of the store lives, in this process or another.
     #[error("the store is in use: another opening holds the lock of its file `store`")]
     Locked,
-    /// The folder has other files and no file `store`, or one whose text is no more than begun.
-    #[error("the folder is no store: it has other files, and no file `store` of one")]
+    /// The folder isn't there, or has no file `store`, or one whose text is no more than begun; where a store may be made,
+    /// there are other files.
+    #[error("no store: the folder has no file `store` of one, or one that is no more than begun")]
     NotAStore,
     /// The file `store` has another text, or is no more than begun beside a log that isn't empty.
     #[error("the file `store` is of another format or version: it is neither `jakumshe store 1` nor one of version 2")]
@@ -54,6 +56,12 @@ impl From<Damaged> for StoreError {
         StoreError::Damaged {
             place: damaged.place,
         }
+    }
+}
+
+impl From<AllocError> for StoreError {
+    fn from(_: AllocError) -> StoreError {
+        StoreError::NoMemory
     }
 }
 

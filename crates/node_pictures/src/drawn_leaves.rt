@@ -27,11 +27,43 @@ fn draw_leaf<W: io::Write>(
     let changes = story.changes.as_slice();
     let end = end_of(changes, birth, sheet.end);
     put_line(text, "lane", sheet.at(birth.step, y), sheet.at(end, y));
-    let mut below = (sheet.end, 0);
+    let mut lost = None;
     for change in changes {
         let is_here = change.leaf == birth.leaf && change.step >= birth.step && change.step <= end;
         if is_here && sheet.is_drawn(change.step) {
-            below = draw_change(text, story, sheet, change, y, below);
+            lost = draw_change(text, story, sheet, change, y, lost);
+        }
+    }
+    put_lost(text, sheet, lost, y);
+}
+
+/// Numbers that a leaf loses in one step.
+#[derive(Clone, Copy)]
+struct Lost {
+    step: usize,
+    least: u64,
+    most: u64,
+    count: u64,
+}
+
+impl Lost {
+    /// The first number that is lost in a step.
+    fn one(step: usize, number: u64) -> Lost {
+        Lost {
+            step,
+            least: number,
+            most: number,
+            count: 1,
+        }
+    }
+
+    /// Another one of the same step.
+    fn and(self, number: u64) -> Lost {
+        Lost {
+            step: self.step,
+            least: self.least.min(number),
+            most: self.most.max(number),
+            count: self.count.saturating_add(1),
         }
     }
 }
@@ -66,30 +98,44 @@ fn put_name<W: io::Write>(text: &mut Text<'_, W>, birth: &Birth, y: u64) {
     end_label(text);
 }
 
-/// Draws a change. Gives the step of the last text below the line, and how many stand there.
+/// Draws a change. Gives what the leaf has lost and nothing shows yet: that is shown once all of its step is known.
 fn draw_change<W: io::Write>(
     text: &mut Text<'_, W>,
     story: &Story<'_>,
     sheet: Sheet,
     change: &Change,
     y: u64,
-    below: (usize, u64),
-) -> (usize, u64) {
+    lost: Option<Lost>,
+) -> Option<Lost> {
     let at = sheet.at(change.step, y);
     match change.what {
         What::Captures(number) => put_captured(text, at, number),
-        What::Loses(number) => {
-            let count = if below.0 == change.step { below.1 } else { 0 };
-            put_lost(text, at, number, count);
-            return (change.step, count.saturating_add(1));
-        }
+        What::Loses(number) => return lose(text, sheet, change.step, number, y, lost),
         What::Low(low) => put_low(text, at, low),
         What::Flushed => put_box(text, "ink", at, 9, 9),
         What::Splits(leaf) => put_arrow(text, story, sheet, change, leaf, true),
         What::TakesIn(leaf) => put_arrow(text, story, sheet, change, leaf, false),
         What::Ends => {}
     }
-    below
+    lost
+}
+
+/// Adds a number to those that are lost in its step, or shows those of an earlier one and begins anew.
+fn lose<W: io::Write>(
+    text: &mut Text<'_, W>,
+    sheet: Sheet,
+    step: usize,
+    number: u64,
+    y: u64,
+    lost: Option<Lost>,
+) -> Option<Lost> {
+    match lost {
+        Some(lost) if lost.step == step => Some(lost.and(number)),
+        _ => {
+            put_lost(text, sheet, lost, y);
+            Some(Lost::one(step, number))
+        }
+    }
 }
 
 fn put_captured<W: io::Write>(text: &mut Text<'_, W>, at: At, number: u64) {
@@ -101,16 +147,37 @@ fn put_captured<W: io::Write>(text: &mut Text<'_, W>, at: At, number: u64) {
     put_numbered(text, "number", above, "", number);
 }
 
-/// Numbers that are lost at once stand beside each other.
-fn put_lost<W: io::Write>(text: &mut Text<'_, W>, at: At, number: u64, count: u64) {
-    if count == 0 {
-        put_cross(text, "cross", at, 4);
-    }
-    let below = At {
-        x: at.x.saturating_add(count.saturating_mul(18)),
-        y: at.y.saturating_add(17),
+/// Shows what a leaf has lost in a step: the number, or the least and the greatest and in brackets how many they are.
+/// Numbers that stood beside one another would stand under other events.
+fn put_lost<W: io::Write>(text: &mut Text<'_, W>, sheet: Sheet, lost: Option<Lost>, y: u64) {
+    let Some(lost) = lost else {
+        return;
     };
-    put_numbered(text, "struck", below, "", number);
+    let at = sheet.at(lost.step, y);
+    put_cross(text, "cross", at, 4);
+    let below = At {
+        x: at.x,
+        y: y.saturating_add(17),
+    };
+    begin_label(text, "struck", below);
+    text.number(lost.least);
+    if lost.count > 1 {
+        text.say("..").number(lost.most);
+    }
+    end_label(text);
+    if lost.count > 1 {
+        put_count(text, at, lost.count);
+    }
+}
+
+fn put_count<W: io::Write>(text: &mut Text<'_, W>, at: At, count: u64) {
+    let below = At {
+        x: at.x,
+        y: at.y.saturating_add(28),
+    };
+    begin_label(text, "number", below);
+    text.say("(").number(count).say(")");
+    end_label(text);
 }
 
 fn put_low<W: io::Write>(text: &mut Text<'_, W>, at: At, low: u64) {

@@ -6,7 +6,7 @@ use crate::told_messages::tell_messages;
 use crate::told_steps::tell_steps;
 use crate::told_txns::tell_txns;
 use crate::wrapped::put_wrapped;
-use node_story::node_shell::{DONE, FAILED, FAULT, first_fault, refusal_of, refuse};
+use node_story::node_shell::{DONE, FAILED, FAULT, Line, first_fault, refusal_of, refuse, request};
 use node_story::world::Out;
 use node_story::{Story, begin, play, play_line};
 use record_key::Refusal;
@@ -91,11 +91,16 @@ fn explain_line<'a, W: io::Write>(
         Ok(failed) => failed,
         Err(refusal) => return Some(refuse(writer, refusal, FAILED)),
     };
-    let is_told = is_told && story.steps.len() > first;
+    let is_told = is_told && (story.steps.len() > first || is_forgetting(line));
     if is_told && !tell_line(story, whole, number, line, first, writer) {
         return Some(FAILED);
     }
     if failed { Some(FAILED) } else { None }
+}
+
+/// Whether the line lets messages go, which is no event.
+fn is_forgetting(line: &[u8]) -> bool {
+    matches!(request(line), Some(Line::Forget))
 }
 
 /// Writes what the steps from this one on have done, and how the node stands behind them. Gives whether that was
@@ -133,6 +138,9 @@ fn put_text(
         .say("  ")
         .word(line)
         .say("\n");
+    if is_forgetting(line) {
+        text.say("  - every message is let go: none that was sent so far can arrive any more\n");
+    }
     tell_steps(text, story, whole, first);
     if changes(story, first) {
         tell_txns(text, story);

@@ -5,8 +5,10 @@ use crate::told_changes::tell_changes;
 use crate::told_losses::tell_losses;
 use crate::told_messages::put_message;
 use crate::told_out::tell_out;
+use history::Record;
 use node_story::world::Out;
-use node_story::{Delivery, Fate, Step, Story, message_of};
+use node_story::{Delivery, Doing, Fate, Step, Story, message_of};
+use record_key::Op;
 
 /// Lines of the steps from this one on.
 pub fn tell_steps(
@@ -34,7 +36,17 @@ fn tell_step(text: &mut Text<'_, Vec<u8>>, story: &Story<'_>, step: &Step<'_>, a
         text.say(": ");
     }
     tell_delivery(text, story, at);
-    tell_out(text, story, step);
+    if is_reply_to_nobody(story, step, at) {
+        text.say("no client is told, and the log has its answer now\n");
+    } else {
+        tell_out(text, story, step);
+    }
+}
+
+/// Whether the step is a reply of which nobody is told, and by which a record is new: an answer that a crash took.
+fn is_reply_to_nobody(story: &Story<'_>, step: &Step<'_>, at: usize) -> bool {
+    let is_untold = matches!((&step.out, step.doing), (Out::Nothing, Doing::Reply(_)));
+    is_untold && story.log.as_slice().iter().any(|logged| logged.born == at)
 }
 
 /// Which message arrives, and how.
@@ -71,6 +83,26 @@ fn tell_records(text: &mut Text<'_, Vec<u8>>, story: &Story<'_>, at: usize) {
         if logged.born == at {
             text.say("    logged: ");
             text.record(logged.number, &logged.record);
+            tell_amount(text, &logged.record);
         }
+    }
+}
+
+/// Of a compensation that adds: an amount is a number from 0 on, and what takes 5 away adds 5 less than 2^64.
+fn tell_amount(text: &mut Text<'_, Vec<u8>>, record: &Record) {
+    let Record::Comp {
+        inverse: Some(Op::Add(_, amount)),
+        ..
+    } = record
+    else {
+        return;
+    };
+    let less = 0u64.wrapping_sub(*amount);
+    if less < *amount {
+        text.say("    which adds -")
+            .number(less)
+            .say(" (2^64 - ")
+            .number(less)
+            .say(").\n");
     }
 }

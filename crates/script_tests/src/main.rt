@@ -2,11 +2,11 @@
 //! script shows: a reader or a writer that fails, a crash after each event, a failure of each device call, and what
 //! explains and draws a script.
 //!
-//! NAME.script must give exactly the text NAME.out and the exit status NAME.status. Each line of `bad_lines` is a script
-//! of its own that is refused BadScript, each of `continued_scripts` names a script that is run on behind failures, each
-//! of `crashed_scripts` one that is crashed, and each of `failed_scripts` one whose devices fail; each of `pictures`
-//! names a script NAME.drawn whose text and picture are NAME.txt and NAME.svg. A case that differs
-//! prints a line; the last lines say how many agree.
+//! NAME.script must give exactly the text NAME.out and the exit status NAME.status. Each line of `bad_lines` is a
+//! script of its own that is refused BadScript, each of `reasons` one with why it is, each of `continued_scripts` names
+//! a script that is run on behind failures, each of `crashed_scripts` one that is crashed, and each of `failed_scripts`
+//! one whose devices fail; each of `pictures` names a script NAME.drawn whose text and picture are NAME.txt and
+//! NAME.svg. A case that differs prints a line; the last lines say how many agree.
 #![tactic(auto)]
 
 mod all_pictures;
@@ -21,6 +21,7 @@ mod listing;
 mod markup;
 mod parts_of_pictures;
 mod pictures;
+mod reasons;
 mod refusals;
 mod tally;
 
@@ -32,6 +33,7 @@ fn main(rt: HostRuntime) -> io::Result<()> {
     let continued = fs::read_to_string(rt, "continued_scripts")?;
     case::compare_scripts(rt, names.as_slice(), continued.as_str())?.print(rt, "scripts")?;
     bad_lines::compare_lines(rt)?.print(rt, "bad lines")?;
+    reasons::compare_reasons(rt, names.as_slice())?.print(rt, "reasons")?;
     refusals::compare_refusals(rt.alloc()).print(rt, "refusals")?;
     failing::compare_failures(rt)?.print(rt, "failures")?;
     crashing::compare_crashes(rt)?.print(rt, "crashes")?;

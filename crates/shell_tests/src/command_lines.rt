@@ -42,7 +42,18 @@ fn put_task(text: &mut String, task: Task<'_>) -> Result<(), Refusal> {
             continues,
             store,
             reads_only,
-        } => put_run(text, continues, store, reads_only),
+            creates,
+            strict,
+        } => {
+            put_run(text, continues, store)?;
+            put_flag(text, " read only", reads_only)?;
+            put_flag(text, " created", creates)?;
+            put_flag(text, " strict", strict)
+        }
+        Task::Check { store } => {
+            text.push_str("check")?;
+            put_store(text, store)
+        }
         Task::Compact { store } => {
             text.push_str("compact")?;
             put_store(text, store)
@@ -53,17 +64,15 @@ fn put_task(text: &mut String, task: Task<'_>) -> Result<(), Refusal> {
     }
 }
 
-/// A run, which may go on behind failures and may be of a store, which may be read only.
-fn put_run(
-    text: &mut String,
-    continues: bool,
-    store: Option<&str>,
-    reads_only: bool,
-) -> Result<(), Refusal> {
+/// A run, which may go on behind failures and may be of a store.
+fn put_run(text: &mut String, continues: bool, store: Option<&str>) -> Result<(), Refusal> {
     text.push_str(if continues { "run on" } else { "run" })?;
-    put_store(text, store)?;
-    if reads_only {
-        text.push_str(" read only")?;
+    put_store(text, store)
+}
+
+fn put_flag(text: &mut String, flag: &str, is_set: bool) -> Result<(), Refusal> {
+    if is_set {
+        text.push_str(flag)?;
     }
     Ok(())
 }

@@ -1,6 +1,6 @@
 //! The store of the folder, or a log in memory, opened and closed again.
 use crate::files::FOLDER;
-use file_devices::{FileLog, NoPages, StoreError, open_store, read_store};
+use file_devices::{FileLog, NoPages, StoreError, open_store, read_store, reopen_store};
 use node_shell::{DONE, run_on};
 use node_store::{Cause, open};
 use record_key::Refusal;
@@ -18,7 +18,10 @@ pub enum Refused {
 /// What a store is opened for.
 #[derive(Clone, Copy)]
 pub enum Way {
+    /// It is made where it isn't there.
     Writing,
+    /// It is to be there.
+    Again,
     Reading,
 }
 
@@ -32,6 +35,7 @@ fn run_script(
     let alloc = rt.alloc();
     let opened = match way {
         Way::Writing => open_store(rt, FOLDER),
+        Way::Again => reopen_store(rt, FOLDER),
         Way::Reading => read_store(rt, FOLDER),
     };
     match opened {

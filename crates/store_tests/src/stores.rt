@@ -3,7 +3,7 @@ use crate::counts::Counts;
 use crate::damage::{Device, count_cuts, count_flips, count_raised};
 use crate::files;
 use crate::opened::{Way, put_run, put_store_error};
-use file_devices::{FileLog, open_store};
+use file_devices::{FileLog, count_blocks, open_store, place_in_file};
 use node_shell::refusal_of;
 use record_key::Refusal;
 use std::fmt::Write;
@@ -107,7 +107,10 @@ impl Subject for Stores<'_> {
                 Ok(())
             }
             "run" => run(rt, Way::Writing, words.rest(), answer),
+            "again" => run(rt, Way::Again, words.rest(), answer),
             "read" => run(rt, Way::Reading, words.rest(), answer),
+            "blocks" => put_blocks(rt, answer),
+            "place" => put_place(rt, words.number()?, answer),
             "log" => {
                 self.log = words.text()?;
                 Ok(())
@@ -144,6 +147,22 @@ fn list(rt: &HostRuntime, answer: &mut String) -> Result<(), Refusal> {
 fn put_bytes(rt: &HostRuntime, name: &str, answer: &mut String) -> Result<(), Refusal> {
     let bytes = files::read(rt, name).map_err(|error| refusal_of(&error))?;
     put_text(answer, &bytes)
+}
+
+fn put_blocks(rt: &HostRuntime, answer: &mut String) -> Result<(), Refusal> {
+    match count_blocks(rt, files::FOLDER) {
+        Ok(count) => Ok(write!(answer, "{count}")?),
+        Err(why) => put_store_error(why, answer),
+    }
+}
+
+/// Where the file has this byte of the log.
+fn put_place(rt: &HostRuntime, byte: u64, answer: &mut String) -> Result<(), Refusal> {
+    match place_in_file(rt, files::FOLDER, byte) {
+        Ok(Some(place)) => Ok(write!(answer, "{place}")?),
+        Ok(None) => Ok(answer.push_str("none")?),
+        Err(why) => put_store_error(why, answer),
+    }
 }
 
 fn run(rt: &HostRuntime, way: Way, lines: &str, answer: &mut String) -> Result<(), Refusal> {

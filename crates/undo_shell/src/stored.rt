@@ -1,8 +1,11 @@
 //! What is done with a store: a script is run on it, or its log is written anew.
 ghost use Rattle.std.specs.Prelude.{◌≡◌, [], IfOk};
 
+use crate::refusals::Counting;
+use crate::script::{Manner, read_script, tell_run};
 use file_devices::{
-    FileLog, NoPages, StoreError, StoreFile, Torn, Tried, open_store, read_store, replace_log,
+    FileLog, FirstFailure, NoPages, StoreError, StoreFile, Torn, Tried, open_store, place_in_file,
+    read_store, reopen_store, replace_log,
 };
 use node_shell::{DONE, FAILED, FAULT, Stopping, refuse, run_on};
 use node_store::{Cause, open, renew};
@@ -12,29 +15,53 @@ use std::io;
 use std::io::{LineWriter, Write};
 use world::{World, bring_up};
 
-type Node = World<FileLog, NoPages>;
+pub type Node = World<FileLog, NoPages>;
 
-/// Runs a script on the store in this folder; where that is read only, nothing of it is kept.
-pub fn run_stored<R>(rt: &R, continues: bool, reads_only: bool, folder: &str) -> u8
+/// What a store is opened for.
+#[derive(Clone, Copy)]
+pub enum Opening {
+    /// A run that leaves in it what it logs.
+    Writing,
+    /// The same, and it is made if it isn't there.
+    Making,
+    /// A look at it: nothing of the run is kept.
+    Reading,
+}
+
+impl Opening {
+    /// What these flags ask for, which exclude each other.
+    pub fn of(reads_only: bool, creates: bool) -> Option<Opening> {
+        match (reads_only, creates) {
+            (true, true) => None,
+            (true, false) => Some(Opening::Reading),
+            (false, true) => Some(Opening::Making),
+            (false, false) => Some(Opening::Writing),
+        }
+    }
+}
+
+/// Runs a script on the store in this folder.
+pub fn run_stored<R>(rt: &R, manner: Manner, opening: Opening, folder: &str) -> u8
 where
     R: Input + Print + Eprint + AllocGlobal + Files<File = File> + Copy,
 {
-    match opened(rt, folder, reads_only) {
-        Ok(log) => run_log(rt, continues, folder, log),
+    match opened(rt, folder, opening) {
+        Ok(log) => run_log(rt, manner, folder, log),
+        Err(StoreError::NotAStore) => print_missing(rt, folder, opening),
         Err(error) => print_unopened(rt, folder, &error),
     }
 }
 
-/// The log of the store in this folder, for reading alone or not.
-fn opened<R>(rt: &R, folder: &str, reads_only: bool) -> Result<FileLog, StoreError>
+/// The log of the store in this folder.
+fn opened<R>(rt: &R, folder: &str, opening: Opening) -> Result<FileLog, StoreError>
 where
     R: AllocGlobal + Files<File = File> + Copy,
     ensures { IfOk result (λ log. log.pending ≡ []) }
 {
-    if reads_only {
-        read_store(rt, folder)
-    } else {
-        open_store(rt, folder)
+    match opening {
+        Opening::Writing => reopen_store(rt, folder),
+        Opening::Making => open_store(rt, folder),
+        Opening::Reading => read_store(rt, folder),
     }
 }
 
@@ -46,29 +73,48 @@ where
     let Some(folder) = folder else {
         return print_faulty(rt, "compact wants a store: --store FOLDER");
     };
-    match open_store(rt, folder) {
+    match reopen_store(rt, folder) {
         Ok(log) => compact_log(rt, folder, log),
         Err(error) => print_unopened(rt, folder, &error),
     }
 }
 
-/// Runs a script on the log of the store in this folder.
-fn run_log<R>(rt: &R, continues: bool, folder: &str, log: FileLog) -> u8
+/// Runs a script on the log of the store in this folder, and tells what of it the system has refused.
+fn run_log<R>(rt: &R, manner: Manner, folder: &str, log: FileLog) -> u8
 where
-    R: Input + Print + Eprint + AllocGlobal,
+    R: Input + Print + Eprint + AllocGlobal + Files<File = File>,
     requires { log.pending ≡ [] }
 {
+    let failure = log.failure();
     match node_on(rt, folder, log) {
-        Ok(world) => run_world(rt, continues, Box::into_inner(world)),
+        Ok(world) => {
+            let status = run_world(rt, manner, Box::into_inner(world));
+            print_failure(rt, folder, failure, status)
+        }
         Err(status) => status,
     }
 }
 
 /// A node on the log of the store in this folder, brought to rest; what its opening has left out is told first. Else the
 /// exit status.
-fn node_on<R>(rt: &R, folder: &str, log: FileLog) -> Result<Box<Node>, u8>
+pub fn node_on<R>(rt: &R, folder: &str, log: FileLog) -> Result<Box<Node>, u8>
 where
-    R: Eprint + AllocGlobal,
+    R: Eprint + AllocGlobal + Files<File = File>,
+    requires { log.pending ≡ [] }
+{
+    let failure = log.failure();
+    let mut world = unsettled_on(rt, folder, log)?;
+    // (no client of an earlier process is there to be told)
+    match bring_up(&mut world, &mut Vec::new(rt.alloc())) {
+        Ok(()) => Ok(world),
+        Err(refusal) => Err(print_unsettled(rt, folder, failure, refusal)),
+    }
+}
+
+/// A node on the log of the store in this folder, as it was opened.
+pub fn unsettled_on<R>(rt: &R, folder: &str, log: FileLog) -> Result<Box<Node>, u8>
+where
+    R: Eprint + AllocGlobal + Files<File = File>,
     requires { log.pending ≡ [] }
 {
     if let Some(torn) = log.torn() {
@@ -79,29 +125,37 @@ where
     let tree = FileLog::volatile(rt.alloc());
     let world = match open(rt.alloc(), log, tree, NoPages::new()) {
         Ok(world) => world,
-        Err(left) => return Err(print_unread(rt, folder, &left.cause)),
+        Err(left) => return Err(print_unread(rt, folder, left.cause)),
     };
-    let Ok(mut world) = Box::new(rt.alloc(), world) else {
-        return Err(print_unread(rt, folder, &Cause::Refused(Refusal::NoMemory)));
-    };
-    // (no client of an earlier process is there to be told)
-    match bring_up(&mut world, &mut Vec::new(rt.alloc())) {
-        Ok(()) => Ok(world),
-        Err(refusal) => Err(print_unread(rt, folder, &Cause::Refused(refusal))),
+    match Box::new(rt.alloc(), world) {
+        Ok(world) => Ok(world),
+        Err(_) => Err(print_unread(rt, folder, Cause::Refused(Refusal::NoMemory))),
     }
 }
 
 /// Runs a script on a node that a store has. Each line of its text is written as soon as it ends: a client that reads of
 /// a commit has it whatever becomes of the process, and one that has it should learn so before the process is gone.
-fn run_world<R>(rt: &R, continues: bool, world: Node) -> u8
+fn run_world<R>(rt: &R, manner: Manner, world: Node) -> u8
 where
-    R: Input + Print + AllocGlobal,
+    R: Input + Print + Eprint + AllocGlobal,
 {
-    let Ok(mut writer) = LineWriter::new(rt.alloc(), Stopping::new(io::writer(rt))) else {
+    let script = match read_script(rt) {
+        Ok(script) => script,
+        Err(refusal) => return refuse(&mut io::writer(rt), refusal, FAILED),
+    };
+    let Ok(writer) = LineWriter::new(rt.alloc(), Stopping::new(io::writer(rt))) else {
         return refuse(&mut io::writer(rt), Refusal::NoMemory, FAILED);
     };
-    let status = run_on(rt.alloc(), world, continues, &mut rt.reader(), &mut writer);
-    finish(&mut writer, status)
+    let mut text = Counting::new(writer);
+    let status = run_on(
+        rt.alloc(),
+        world,
+        manner.continues,
+        &mut script.as_slice(),
+        &mut text,
+    );
+    let status = finish(&mut text, status);
+    tell_run(rt, manner, &script, &text, status)
 }
 
 fn compact_log<R>(rt: &R, folder: &str, log: FileLog) -> u8
@@ -125,9 +179,9 @@ where
     match renew(rt.alloc(), world, log, tree, NoPages::new()) {
         Ok(renewed) => match replaced(rt, folder, world, &renewed) {
             Ok(status) => status,
-            Err(refusal) => print_unread(rt, folder, &Cause::Refused(refusal)),
+            Err(refusal) => print_unread(rt, folder, Cause::Refused(refusal)),
         },
-        Err(left) => print_unread(rt, folder, &Cause::Refused(left.refusal)),
+        Err(left) => print_unread(rt, folder, Cause::Refused(left.refusal)),
     }
 }
 
@@ -165,16 +219,62 @@ fn print_torn<R: Eprint>(rt: &R, folder: &str, torn: Torn) -> io::Result<()> {
     )
 }
 
-/// Prints to standard error what a command line lacks.
-fn print_faulty<R: Eprint>(rt: &R, lacks: &str) -> u8 {
-    match eprintln!(rt; "undo_shell: {lacks}") {
+/// Prints to standard error what is wrong with a command line.
+pub fn print_faulty<R: Eprint>(rt: &R, fault: &str) -> u8 {
+    match eprintln!(rt; "undo_shell: {fault}") {
         Ok(()) => FAULT,
         Err(_) => FAILED,
     }
 }
 
+/// Prints to standard error that there is no store, and how one is made.
+fn print_missing<R: Eprint>(rt: &R, folder: &str, opening: Opening) -> u8 {
+    let error = StoreError::NotAStore;
+    let hint = match opening {
+        Opening::Writing => "; --create makes one in an empty folder",
+        Opening::Making => "; one is made in an empty folder alone",
+        Opening::Reading => "",
+    };
+    match eprintln!(rt; "undo_shell: {folder}: {error}{hint}") {
+        Ok(()) => FAULT,
+        Err(_) => FAILED,
+    }
+}
+
+/// Prints to standard error what the system first refused of a store's log, if it has refused anything. Gives the exit
+/// status of the run that met it.
+fn print_failure<R: Eprint>(rt: &R, folder: &str, failure: Option<FirstFailure>, status: u8) -> u8 {
+    match first_of(&failure) {
+        Some(error) => match eprintln!(rt; "undo_shell: {folder}: {error}") {
+            Ok(()) => status,
+            Err(_) => FAILED,
+        },
+        None => status,
+    }
+}
+
+fn first_of(failure: &Option<FirstFailure>) -> Option<StoreError> {
+    match failure {
+        Some(failure) => failure.get(),
+        None => None,
+    }
+}
+
+/// Prints to standard error why a store's node didn't come to rest: what the system refused, if that is why.
+fn print_unsettled<R: Eprint + AllocGlobal + Files<File = File>>(
+    rt: &R,
+    folder: &str,
+    failure: Option<FirstFailure>,
+    refusal: Refusal,
+) -> u8 {
+    match first_of(&failure) {
+        Some(error) => print_unopened(rt, folder, &error),
+        None => print_unread(rt, folder, Cause::Refused(refusal)),
+    }
+}
+
 /// Prints to standard error why a store isn't opened, or not written.
-fn print_unopened<R: Eprint>(rt: &R, folder: &str, error: &StoreError) -> u8 {
+pub fn print_unopened<R: Eprint>(rt: &R, folder: &str, error: &StoreError) -> u8 {
     let status = match error {
         StoreError::NoMemory => FAILED,
         StoreError::Io {
@@ -190,14 +290,30 @@ fn print_unopened<R: Eprint>(rt: &R, folder: &str, error: &StoreError) -> u8 {
 }
 
 /// Prints to standard error why no node is made of a store's log.
-fn print_unread<R: Eprint>(rt: &R, folder: &str, cause: &Cause) -> u8 {
+pub fn print_unread<R: Eprint + AllocGlobal + Files<File = File>>(
+    rt: &R,
+    folder: &str,
+    cause: Cause,
+) -> u8 {
     let status = match cause {
         Cause::Refused(Refusal::NoMemory | Refusal::Device) => FAILED,
         _ => FAULT,
     };
     let file = StoreFile::Log;
+    let cause = in_file(rt, folder, cause);
     match eprintln!(rt; "undo_shell: {folder}: {file}: {cause}") {
         Ok(()) => status,
         Err(_) => FAILED,
+    }
+}
+
+/// The cause, with a place in the file where it has one in the log: whoever looks at the bytes has the file.
+fn in_file<R: AllocGlobal + Files<File = File>>(rt: &R, folder: &str, cause: Cause) -> Cause {
+    let Cause::Refused(Refusal::BadBytes(place)) = cause else {
+        return cause;
+    };
+    match place_in_file(rt, folder, place) {
+        Ok(Some(place)) => Cause::Refused(Refusal::BadBytes(place)),
+        Ok(None) | Err(_) => cause,
     }
 }

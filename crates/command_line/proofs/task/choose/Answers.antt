@@ -1,6 +1,7 @@
 use Rattle.std.proofs.Common.{◌≡◌, map, true, List, ℕ, [], sym, subst, refl}
 use Rattle.clap.specs.Simple.{App, HasMatchesOf, subcommand_of, subcommand_rows_of}
 use Rattle.clap.specs.Faults.{fault_of, is_simple_and_free}
+use Rattle.clap.specs.Kinds.{HasKind}
 use Rattle.command_line.specs.Asked.{MayAskFor}
 use Rattle.command_line.specs.CommandLine.{command_line}
 use Rattle.command_line.proofs.Subcommands.{words_taken}
@@ -22,3 +23,9 @@ returns-in-Ok-clause-fault g c =
     let texts : List (List ℕ) = map g.S.AsStr.text c.args.words.now in
     subst (λ (app : App). is_simple_and_free app ≡ true → fault_of app texts ≡ []) c.in_ok-command_line.ensures
     c.in-Ok.ensures.kinds refl
+
+pub returns-in-Err-clause-fault : goal.returns-in-Err-clause-fault
+returns-in-Err-clause-fault g c =
+    let texts : List (List ℕ) = map g.S.AsStr.text c.args.words.now in
+    subst (λ (app : App). is_simple_and_free app ≡ true → HasKind (fault_of app texts) c.in-Err.fault)
+    c.in_ok-command_line.ensures c.in-Err.ensures.kinds refl

@@ -1,35 +1,23 @@
-use Rattle.std.proofs.Common.{rules, ap₂, ◌≡◌, ◌∙◌, ◌||◌, Bool, false, codes}
+use Rattle.std.proofs.Common.{rules, ap₂, ◌≡◌, ◌∙◌, false}
 use Rattle.std.proofs.lemmas.Result.{IfOk-weaker}
-use Rattle.clap.specs.Built.{AddsArg}
-use Rattle.clap.specs.declared.builder.arg.Arg.{Arg}
-use Rattle.clap.specs.declared.builder.command.Command.{Command}
-use Rattle.clap.specs.Simple.{app_of, new_app, with_rule}
+use Rattle.clap.specs.Simple.{app_of, with_rule}
 use Rattle.clap.specs.Walk.{rule_of}
-use Rattle.command_line.specs.CommandLine.{IsLocal, continuing, reading, storing}
+use Rattle.command_line.proofs.Adding.{local_with}
+use Rattle.command_line.specs.CommandLine.{IsLocal, counting_refusals, creating, plain_run}
 use Rattle.command_line.proofs.task.run_command.Goals as goal
 
 pub returns-clause-app : goal.returns-clause-app
 returns-clause-app c =
-    let empty : app_of c.after_help.result ≡ new_app (codes "run") = search rules in
     let local : c.help.result.global ≡ false = search rules in
-    let rule : rule_of c.help.result ≡ continuing = search rules in
-    let one : app_of c.in_ok-arg.field-0 ≡ with_rule (new_app (codes "run")) continuing =
-    c.in_ok-arg.ensures.shape local ∙ ap₂ with_rule empty rule in
+    let rule : rule_of c.help.result ≡ creating = search rules in
+    let one : app_of c.in_ok-arg.field-0 ≡ with_rule plain_run creating =
+    c.in_ok-arg.ensures.shape local ∙ ap₂ with_rule c.in_ok-command.ensures.app rule in
     let local_2 : c.help-2.result.global ≡ false = search rules in
-    let rule_2 : rule_of c.help-2.result ≡ storing = search rules in
-    let two : app_of c.in_ok-arg-2.field-0 ≡ with_rule (with_rule (new_app (codes "run")) continuing) storing =
-    c.in_ok-arg-2.ensures.shape local_2 ∙ ap₂ with_rule one rule_2 in
-    let local_3 : c.help-3.result.global ≡ false = search rules in
-    let rule_3 : rule_of c.help-3.result ≡ reading = search rules in
-    IfOk-weaker c.arg-3.result _ _ (λ made added. added.shape local_3 ∙ ap₂ with_rule two rule_3) c.arg-3.ensures
-
-local_with : (old : Command) (a : Arg) (new : Command) → AddsArg old a new → IsLocal old → a.global ≡ false → IsLocal new
-local_with old a new added local none = added.globals ∙ ap₂ (λ (x y : Bool). x || y) local none
+    let rule_2 : rule_of c.help-2.result ≡ counting_refusals = search rules in
+    IfOk-weaker c.arg-2.result _ _ (λ made added. added.shape local_2 ∙ ap₂ with_rule one rule_2) c.arg-2.ensures
 
 pub returns-clause-local : goal.returns-clause-local
 returns-clause-local c =
-    let empty : IsLocal c.after_help.result = search rules in
-    let one : IsLocal c.in_ok-arg.field-0 = local_with _ _ c.in_ok-arg.field-0 c.in_ok-arg.ensures empty (search rules) in
-    let two : IsLocal c.in_ok-arg-2.field-0 =
-    local_with _ _ c.in_ok-arg-2.field-0 c.in_ok-arg-2.ensures one (search rules) in
-    IfOk-weaker c.arg-3.result _ _ (λ made added. local_with _ _ made added two (search rules)) c.arg-3.ensures
+    let one : IsLocal c.in_ok-arg.field-0 =
+    local_with _ _ c.in_ok-arg.field-0 c.in_ok-arg.ensures c.in_ok-command.ensures.local (search rules) in
+    IfOk-weaker c.arg-2.result _ _ (λ made added. local_with _ _ made added one (search rules)) c.arg-2.ensures
