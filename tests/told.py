@@ -93,7 +93,7 @@ class Cases:
                  "undo_shell: line 2 changes nothing, so nothing is said of it\n")
         self.run("explain --at 2", "settle\nforget", 0,
                  "line 2  forget\n  - every message is let go: none that was sent so far can arrive any more\n")
-        self.run("--version", "", 0, "undo_shell 0.9.0\n")
+        self.run("--version", "", 0, "undo_shell 0.2.0\n")
 
     def stores(self):
         for folder in ("typo", "none/store"):

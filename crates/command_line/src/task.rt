@@ -52,7 +52,7 @@ pub enum Task<'a> {
 }
 
 /// The version of the program.
-const VERSION: &str = "0.9.0";
+const VERSION: &str = "0.2.0";
 
 const LINES: &str = "\
 A script is lines; empty lines and lines that begin with # are skipped.
