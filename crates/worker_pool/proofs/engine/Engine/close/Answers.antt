@@ -8,7 +8,7 @@ use Rattle.worker_pool.proofs.engine.Engine.close.Goals as goal
 
 pub returns-clause-kept : goal.returns-clause-kept
 returns-clause-kept g c =
-    let es = c.rows_of.new.journal in
+    let es = c.node_of_desks.new.journal in
     let all = subst (AllByRecursion (IsCovered es)) c.in_ok-callers.ensures.callers c.cover.ensures.covered in
     let kept = subst (λ (es : List Step). AllByRecursion (IsKeptBy es) c.args.sessions.items)
     (sym c.cover.ensures.same)
