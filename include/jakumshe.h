@@ -11,7 +11,10 @@
  * call that has begun. The next call then finishes it first, and its answer is lost. So roll the transaction back
  * then; where the call was jakumshe_commit and that is refused JAKUMSHE_NOT_OPEN, it has committed.
  *
- * A node takes its memory from malloc, and keeps what it has logged until it is closed: nothing outlives the process.
+ * A node takes its memory from malloc, and nothing outlives the process. What it has logged it keeps until it is closed
+ * or renewed (jakumshe_renew): by itself at a commit that leaves no transaction open, where the log has 4 MB and twice
+ * what the last renewal left, unless its field `keeps_log` says otherwise. Numbers of transactions begin anew in a renewed
+ * node: who keeps the number of one that has ended may name another by it.
  * The library has no state beside its nodes, takes no lock, starts no thread, and calls nobody back.
  *
  * What is checked: each pointer for null, by the functions of this header; each length; and that a node is open. What
@@ -20,12 +23,13 @@
  *     be closed and opened again, and one that isn't closed in the end leaks its node;
  *   - a pointer that isn't null points to as much memory as its type and the length beside it say, which nothing else
  *     writes during the call; the memory of two pointers of a call doesn't overlap, unless the call writes neither;
- *   - a node is used by one thread at a time, by the thread that has opened it, and not by a signal handler nor by a
- *     child that was forked from a process with threads;
+ *   - a node is used by one thread at a time: by any thread, where what orders its calls, as a mutex does, also orders
+ *     their memory; not by a signal handler, nor by a child that was forked from a process with threads;
  *   - malloc, realloc and free are those of one allocator, and there is enough stack.
  *
- * Who can't use the functions of this header, as another language, calls those that begin with jakumshe_raw_ and sees
- * to it that no pointer is null, also where its length is 0.
+ * Who can't use the functions of this header, as another language, finds them in the shared library that c/Makefile
+ * makes. Those that begin with jakumshe_raw_ ask more of their caller: that no pointer is null, also where its length is
+ * 0, and what the others do round them.
  */
 #ifndef JAKUMSHE_H
 #define JAKUMSHE_H
@@ -35,6 +39,13 @@
 
 #ifdef __cplusplus
 extern "C" {
+#endif
+
+#define JAKUMSHE_HEADER_VERSION "0.2.0"
+
+/* How the functions of this header are defined: c/jakumshe_calls.c defines them for other languages to call. */
+#ifndef JAKUMSHE_CALL
+#define JAKUMSHE_CALL static inline
 #endif
 
 enum {
@@ -71,19 +82,32 @@ enum {
     JAKUMSHE_DAMAGED = 41,      /* a block of the log's file isn't what was written */
     JAKUMSHE_LOCKED = 42,       /* another has the store open */
     JAKUMSHE_NOT_A_STORE = 43,  /* the folder has other files and is no store */
-    JAKUMSHE_VERSION = 44       /* the store is of another format or version */
+    JAKUMSHE_VERSION = 44,      /* the store is of another format or version */
+
+    /* The library's own again. */
+    JAKUMSHE_ACTIVE = 45, /* a transaction is open */
+    JAKUMSHE_STORED = 46  /* the node is a store's: the call of jakumshe_store.h is meant */
 };
 
 #define JAKUMSHE_KEY_ROOM 32
 #define JAKUMSHE_VALUE_ROOM 120
 #define JAKUMSHE_HEAD_ROOM 32
 
-/* A place for one node. It starts as JAKUMSHE_CLOSED_NODE. */
+/* How many bytes a log has at least that is renewed by itself. */
+#define JAKUMSHE_LONG_LOG ((size_t)4 << 20)
+
+/*
+ * A place for one node. It starts as JAKUMSHE_CLOSED_NODE. What jakumshe_raw_ functions see of it is its first field. Of
+ * the others only `keeps_log` is the caller's.
+ */
 struct jakumshe_node {
     void *private_to_the_library;
+    int keeps_log; /* whether the log is renewed by jakumshe_renew and jakumshe_store_compact alone */
+    int is_stored; /* whether a store keeps the log */
+    size_t left;   /* how many bytes of log the last renewal left, or there were where one failed */
 };
 
-#define JAKUMSHE_CLOSED_NODE { NULL }
+#define JAKUMSHE_CLOSED_NODE { NULL, 0, 0, 0 }
 
 struct jakumshe_value {
     uint8_t length;
@@ -95,6 +119,19 @@ struct jakumshe_row {
     uint8_t value_length;
     uint8_t key[JAKUMSHE_KEY_ROOM];
     uint8_t value[JAKUMSHE_VALUE_ROOM];
+};
+
+struct jakumshe_key {
+    uint8_t length;
+    uint8_t bytes[JAKUMSHE_KEY_ROOM];
+};
+
+/* A place in a range that a transaction reads, as jakumshe_start has made it and jakumshe_next moves it. */
+struct jakumshe_cursor {
+    uint64_t txn;
+    struct jakumshe_key next; /* where it goes on */
+    struct jakumshe_key high; /* the range's upper end, none where its length is 0 */
+    int is_at_end;
 };
 
 /* Ended by a 0. */
@@ -123,6 +160,8 @@ int jakumshe_raw_get(struct jakumshe_node *node, uint64_t txn, const uint8_t *ke
                      struct jakumshe_value *value);
 int jakumshe_raw_scan(struct jakumshe_node *node, uint64_t txn, const uint8_t *low, size_t low_length,
                       const uint8_t *high, size_t high_length, size_t *count);
+int jakumshe_raw_scan_part(struct jakumshe_node *node, uint64_t txn, const uint8_t *low, size_t low_length,
+                           const uint8_t *high, size_t high_length, struct jakumshe_key *end, size_t *count);
 int jakumshe_raw_page(struct jakumshe_node *node, struct jakumshe_row *rows, size_t room, size_t *count);
 int jakumshe_raw_save(struct jakumshe_node *node, uint64_t txn, uint64_t *savepoint);
 int jakumshe_raw_go_back(struct jakumshe_node *node, uint64_t txn, uint64_t savepoint);
@@ -132,39 +171,73 @@ int jakumshe_raw_unpack(uint8_t *file, size_t size, uint64_t number, size_t *len
 int jakumshe_raw_open_on(struct jakumshe_node *node, const uint8_t *log, size_t length, size_t *kept);
 int jakumshe_raw_log(struct jakumshe_node *node, size_t from, uint8_t *bytes, size_t room, size_t *length);
 void jakumshe_raw_head(uint64_t *sum, uint64_t start, const uint8_t *bytes, size_t length, struct jakumshe_head *head);
+int jakumshe_raw_renew(struct jakumshe_node *node, struct jakumshe_node *renewed);
+int jakumshe_raw_replace(struct jakumshe_node *node, struct jakumshe_node *renewed);
 void jakumshe_raw_name(int status, struct jakumshe_name *name);
+void jakumshe_raw_version(struct jakumshe_name *version);
 
 /* Whether there are bytes to read: a null pointer has none. */
-static inline int jakumshe_has(const void *bytes, size_t length)
+JAKUMSHE_CALL int jakumshe_has(const void *bytes, size_t length)
 {
     return bytes != NULL || length == 0;
 }
 
-static inline const uint8_t *jakumshe_bytes(const void *bytes)
+JAKUMSHE_CALL const uint8_t *jakumshe_bytes(const void *bytes)
 {
     return bytes != NULL ? (const uint8_t *)bytes : (const uint8_t *)"";
 }
 
-/* Makes a new node, without records, in a place that has none. Refused OPEN, NO_MEMORY. */
-static inline int jakumshe_open(struct jakumshe_node *node)
+/* How many bytes of log the node has. Not for callers. */
+JAKUMSHE_CALL size_t jakumshe_log_length(struct jakumshe_node *node)
 {
-    return node != NULL ? jakumshe_raw_open(node) : JAKUMSHE_NULL;
+    uint8_t none[1];
+    size_t length = 0;
+    return jakumshe_raw_log(node, 0, none, 0, &length) == JAKUMSHE_DONE ? length : 0;
 }
 
-/* Frees the node with all its records, and lets its place be opened again. Refused CLOSED, as every call below is. */
-static inline int jakumshe_close(struct jakumshe_node *node)
+/* Whether a log of so many bytes is to be renewed by itself. Not for callers. */
+JAKUMSHE_CALL int jakumshe_is_due(const struct jakumshe_node *node, size_t length)
 {
-    return node != NULL ? jakumshe_raw_close(node) : JAKUMSHE_NULL;
+    return !node->keeps_log && length >= JAKUMSHE_LONG_LOG && length / 2 >= node->left;
+}
+
+/* A renewal of a log of so many bytes by itself ended so. One that failed isn't tried at once again. Not for callers. */
+JAKUMSHE_CALL void jakumshe_tried(struct jakumshe_node *node, int status, size_t length)
+{
+    if (status != JAKUMSHE_DONE && status != JAKUMSHE_ACTIVE)
+        node->left = length;
+}
+
+/* Makes a new node, without records, in a place that has none. Refused OPEN, NO_MEMORY. */
+JAKUMSHE_CALL int jakumshe_open(struct jakumshe_node *node)
+{
+    if (node == NULL)
+        return JAKUMSHE_NULL;
+    int status = jakumshe_raw_open(node);
+    if (status == JAKUMSHE_DONE)
+        node->left = 0;
+    return status;
+}
+
+/*
+ * Frees the node with all its records, and lets its place be opened again. Refused CLOSED, as every call below is; STORED
+ * where the node is a store's.
+ */
+JAKUMSHE_CALL int jakumshe_close(struct jakumshe_node *node)
+{
+    if (node == NULL)
+        return JAKUMSHE_NULL;
+    return node->is_stored ? JAKUMSHE_STORED : jakumshe_raw_close(node);
 }
 
 /* Begins a transaction and gives its number. Refused FULL where 64 are open. */
-static inline int jakumshe_begin(struct jakumshe_node *node, uint64_t *txn)
+JAKUMSHE_CALL int jakumshe_begin(struct jakumshe_node *node, uint64_t *txn)
 {
     return node != NULL && txn != NULL ? jakumshe_raw_begin(node, txn) : JAKUMSHE_NULL;
 }
 
 /* Puts a record where there is none. Refused EXISTS. The key stays locked then too, as with the next five. */
-static inline int jakumshe_insert(struct jakumshe_node *node, uint64_t txn, const void *key, size_t key_length,
+JAKUMSHE_CALL int jakumshe_insert(struct jakumshe_node *node, uint64_t txn, const void *key, size_t key_length,
                                   const void *value, size_t value_length)
 {
     if (node == NULL || !jakumshe_has(key, key_length) || !jakumshe_has(value, value_length))
@@ -173,7 +246,7 @@ static inline int jakumshe_insert(struct jakumshe_node *node, uint64_t txn, cons
 }
 
 /* Gives the record that is there another value. Refused NO_RECORD. */
-static inline int jakumshe_update(struct jakumshe_node *node, uint64_t txn, const void *key, size_t key_length,
+JAKUMSHE_CALL int jakumshe_update(struct jakumshe_node *node, uint64_t txn, const void *key, size_t key_length,
                                   const void *value, size_t value_length)
 {
     if (node == NULL || !jakumshe_has(key, key_length) || !jakumshe_has(value, value_length))
@@ -182,7 +255,7 @@ static inline int jakumshe_update(struct jakumshe_node *node, uint64_t txn, cons
 }
 
 /* Puts the record, whether there is one or not. */
-static inline int jakumshe_upsert(struct jakumshe_node *node, uint64_t txn, const void *key, size_t key_length,
+JAKUMSHE_CALL int jakumshe_upsert(struct jakumshe_node *node, uint64_t txn, const void *key, size_t key_length,
                                   const void *value, size_t value_length)
 {
     if (node == NULL || !jakumshe_has(key, key_length) || !jakumshe_has(value, value_length))
@@ -191,7 +264,7 @@ static inline int jakumshe_upsert(struct jakumshe_node *node, uint64_t txn, cons
 }
 
 /* Removes the record that is there. Refused NO_RECORD. */
-static inline int jakumshe_delete(struct jakumshe_node *node, uint64_t txn, const void *key, size_t key_length)
+JAKUMSHE_CALL int jakumshe_delete(struct jakumshe_node *node, uint64_t txn, const void *key, size_t key_length)
 {
     if (node == NULL || !jakumshe_has(key, key_length))
         return JAKUMSHE_NULL;
@@ -202,7 +275,7 @@ static inline int jakumshe_delete(struct jakumshe_node *node, uint64_t txn, cons
  * Adds to the number that is there: a value of 8 bytes, the highest first. The sum runs round at 2^64. Transactions
  * that add to one key don't lock each other out. Refused NO_RECORD, NOT_NUMBER.
  */
-static inline int jakumshe_add(struct jakumshe_node *node, uint64_t txn, const void *key, size_t key_length,
+JAKUMSHE_CALL int jakumshe_add(struct jakumshe_node *node, uint64_t txn, const void *key, size_t key_length,
                                uint64_t amount)
 {
     if (node == NULL || !jakumshe_has(key, key_length))
@@ -211,7 +284,7 @@ static inline int jakumshe_add(struct jakumshe_node *node, uint64_t txn, const v
 }
 
 /* Gives the value at the key. Refused NO_RECORD. */
-static inline int jakumshe_get(struct jakumshe_node *node, uint64_t txn, const void *key, size_t key_length,
+JAKUMSHE_CALL int jakumshe_get(struct jakumshe_node *node, uint64_t txn, const void *key, size_t key_length,
                                struct jakumshe_value *value)
 {
     if (node == NULL || !jakumshe_has(key, key_length) || value == NULL)
@@ -221,10 +294,10 @@ static inline int jakumshe_get(struct jakumshe_node *node, uint64_t txn, const v
 
 /*
  * Reads the rows from the key `low` on, below the key `high`, or to the end where `high` has no bytes, and gives how
- * many there are. The node keeps them for jakumshe_page, in place of what is left of an earlier scan. Refused
- * BAD_RANGE.
+ * many there are. All of the range is locked. The node keeps the rows for jakumshe_page, some 160 bytes each, in place of
+ * what is left of an earlier scan; jakumshe_start is for ranges of which that is too much. Refused BAD_RANGE.
  */
-static inline int jakumshe_scan(struct jakumshe_node *node, uint64_t txn, const void *low, size_t low_length,
+JAKUMSHE_CALL int jakumshe_scan(struct jakumshe_node *node, uint64_t txn, const void *low, size_t low_length,
                                 const void *high, size_t high_length, size_t *count)
 {
     if (node == NULL || !jakumshe_has(low, low_length) || !jakumshe_has(high, high_length) || count == NULL)
@@ -237,47 +310,176 @@ static inline int jakumshe_scan(struct jakumshe_node *node, uint64_t txn, const 
  * are: fewer than there is room for, or none, where no more are left. They are as the scan has read them, whatever came
  * since.
  */
-static inline int jakumshe_page(struct jakumshe_node *node, struct jakumshe_row *rows, size_t room, size_t *count)
+JAKUMSHE_CALL int jakumshe_page(struct jakumshe_node *node, struct jakumshe_row *rows, size_t room, size_t *count)
 {
     if (node == NULL || rows == NULL || count == NULL)
         return JAKUMSHE_NULL;
     return jakumshe_raw_page(node, rows, room, count);
 }
 
+/* Puts a key, or none where the length is 0. Not for callers. */
+JAKUMSHE_CALL void jakumshe_put_key(struct jakumshe_key *key, const uint8_t *bytes, size_t length)
+{
+    key->length = (uint8_t)length;
+    for (size_t place = 0; place < length; place++)
+        key->bytes[place] = bytes[place];
+}
+
+/* Less than 0, 0 or more as the one key is below the other, the same or above. Not for callers. */
+JAKUMSHE_CALL int jakumshe_compare(const struct jakumshe_key *key, const struct jakumshe_key *other)
+{
+    for (int place = 0; place < key->length && place < other->length; place++)
+        if (key->bytes[place] != other->bytes[place])
+            return (int)key->bytes[place] - (int)other->bytes[place];
+    return (int)key->length - (int)other->length;
+}
+
+/* Moves the cursor behind a row, to the least key that is above it. Not for callers. */
+JAKUMSHE_CALL void jakumshe_pass(struct jakumshe_cursor *cursor, const struct jakumshe_row *row)
+{
+    struct jakumshe_key *next = &cursor->next;
+    jakumshe_put_key(next, row->key, row->key_length);
+    if (next->length < JAKUMSHE_KEY_ROOM) {
+        next->bytes[next->length++] = 0;
+    } else {
+        while (next->length > 0 && next->bytes[next->length - 1] == 255)
+            next->length--;
+        if (next->length > 0)
+            next->bytes[next->length - 1]++;
+    }
+    cursor->is_at_end =
+        next->length == 0 || (cursor->high.length > 0 && jakumshe_compare(next, &cursor->high) >= 0);
+}
+
+/*
+ * Makes a cursor over the rows from the key `low` on, below the key `high`, or to the end where `high` has no bytes. It
+ * asks nothing of a node. Refused EMPTY_KEY, TOO_LONG.
+ */
+JAKUMSHE_CALL int jakumshe_start(struct jakumshe_cursor *cursor, uint64_t txn, const void *low, size_t low_length,
+                                 const void *high, size_t high_length)
+{
+    if (cursor == NULL || !jakumshe_has(low, low_length) || !jakumshe_has(high, high_length))
+        return JAKUMSHE_NULL;
+    if (low_length == 0)
+        return JAKUMSHE_EMPTY_KEY;
+    if (low_length > JAKUMSHE_KEY_ROOM || high_length > JAKUMSHE_KEY_ROOM)
+        return JAKUMSHE_TOO_LONG;
+    cursor->txn = txn;
+    cursor->is_at_end = 0;
+    jakumshe_put_key(&cursor->next, jakumshe_bytes(low), low_length);
+    jakumshe_put_key(&cursor->high, jakumshe_bytes(high), high_length);
+    return JAKUMSHE_DONE;
+}
+
+/*
+ * Gives the next rows of a cursor's range, in the order of their keys, as many as there is room for, and how many these
+ * are: none where no more are left; there may be fewer than there is room for before. The node keeps no copy of them, but
+ * for what the last leaf has of the range. Of the range just what was read is locked, until the transaction ends: so what
+ * was read stays as it is for others, and further on the rows are as they are when they are read, with what the
+ * transaction itself has done since it made the cursor. That is still as if it had read them all at its end. It takes the
+ * place of what is left of a jakumshe_scan. Refused BAD_RANGE, NOT_OPEN; BUSY where another's lock is met, and then the
+ * cursor stays where it is, and may go on later.
+ */
+JAKUMSHE_CALL int jakumshe_next(struct jakumshe_node *node, struct jakumshe_cursor *cursor, struct jakumshe_row *rows,
+                                size_t room, size_t *count)
+{
+    if (node == NULL || cursor == NULL || rows == NULL || count == NULL)
+        return JAKUMSHE_NULL;
+    size_t given = 0;
+    while (given < room && !cursor->is_at_end) {
+        struct jakumshe_key end;
+        size_t there = 0, taken = 0;
+        int status = jakumshe_raw_scan_part(node, cursor->txn, cursor->next.bytes, cursor->next.length,
+                                            cursor->high.bytes, cursor->high.length, &end, &there);
+        if (status != JAKUMSHE_DONE && given == 0)
+            return status;
+        /* What refuses it then is told by the next call. */
+        if (status != JAKUMSHE_DONE || jakumshe_raw_page(node, rows + given, room - given, &taken) != JAKUMSHE_DONE)
+            break;
+        given += taken;
+        if (taken < there) {
+            jakumshe_pass(cursor, &rows[given - 1]);
+        } else {
+            cursor->next = end;
+            cursor->is_at_end = end.length == 0;
+        }
+    }
+    *count = given;
+    return JAKUMSHE_DONE;
+}
+
 /* Sets a savepoint and gives its number, from 1 in each transaction. Refused FULL where the transaction has 16. */
-static inline int jakumshe_save(struct jakumshe_node *node, uint64_t txn, uint64_t *savepoint)
+JAKUMSHE_CALL int jakumshe_save(struct jakumshe_node *node, uint64_t txn, uint64_t *savepoint)
 {
     return node != NULL && savepoint != NULL ? jakumshe_raw_save(node, txn, savepoint) : JAKUMSHE_NULL;
 }
 
 /* Undoes what the transaction did since the savepoint, which stays; later ones don't. Refused BAD_SAVEPOINT. */
-static inline int jakumshe_go_back(struct jakumshe_node *node, uint64_t txn, uint64_t savepoint)
+JAKUMSHE_CALL int jakumshe_go_back(struct jakumshe_node *node, uint64_t txn, uint64_t savepoint)
 {
     return node != NULL ? jakumshe_raw_go_back(node, txn, savepoint) : JAKUMSHE_NULL;
 }
 
 /* Undoes all that the transaction did, and ends it. */
-static inline int jakumshe_roll_back(struct jakumshe_node *node, uint64_t txn)
+JAKUMSHE_CALL int jakumshe_roll_back(struct jakumshe_node *node, uint64_t txn)
 {
     return node != NULL ? jakumshe_raw_roll_back(node, txn) : JAKUMSHE_NULL;
 }
 
-/* Ends the transaction: what it did stays. */
-static inline int jakumshe_commit(struct jakumshe_node *node, uint64_t txn)
+/*
+ * Lets go of what the node has logged, but for what makes its records. It takes time and memory by the records, and needs
+ * memory for them twice until it is done. Refused ACTIVE where a transaction is open, NO_MEMORY; STORED where the node is
+ * a store's.
+ */
+JAKUMSHE_CALL int jakumshe_renew(struct jakumshe_node *node)
 {
-    return node != NULL ? jakumshe_raw_commit(node, txn) : JAKUMSHE_NULL;
+    struct jakumshe_node renewed = JAKUMSHE_CLOSED_NODE;
+    if (node == NULL)
+        return JAKUMSHE_NULL;
+    if (node->is_stored)
+        return JAKUMSHE_STORED;
+    int status = jakumshe_raw_renew(node, &renewed);
+    if (status != JAKUMSHE_DONE)
+        return status;
+    (void)jakumshe_raw_replace(node, &renewed);
+    node->left = jakumshe_log_length(node);
+    return JAKUMSHE_DONE;
+}
+
+/* Ends the transaction: what it did stays. Refused STORED where the node is a store's. */
+JAKUMSHE_CALL int jakumshe_commit(struct jakumshe_node *node, uint64_t txn)
+{
+    if (node == NULL)
+        return JAKUMSHE_NULL;
+    if (node->is_stored)
+        return JAKUMSHE_STORED;
+    int status = jakumshe_raw_commit(node, txn);
+    if (status != JAKUMSHE_DONE)
+        return status;
+    size_t length = jakumshe_log_length(node);
+    if (jakumshe_is_due(node, length))
+        jakumshe_tried(node, jakumshe_renew(node), length);
+    return status;
 }
 
 /* The name of a status. */
-static inline struct jakumshe_name jakumshe_name(int status)
+JAKUMSHE_CALL struct jakumshe_name jakumshe_name(int status)
 {
     struct jakumshe_name name;
     jakumshe_raw_name(status, &name);
     return name;
 }
 
+/* The version of the library that is linked; JAKUMSHE_HEADER_VERSION is that of this header. */
+JAKUMSHE_CALL struct jakumshe_name jakumshe_version(void)
+{
+    struct jakumshe_name version;
+    jakumshe_raw_version(&version);
+    return version;
+}
+
 /* Spells a number as a value to which jakumshe_add can add. */
-static inline void jakumshe_put_number(uint8_t bytes[8], uint64_t number)
+JAKUMSHE_CALL void jakumshe_put_number(uint8_t bytes[8], uint64_t number)
 {
     for (int place = 7; place >= 0; place--) {
         bytes[place] = (uint8_t)number;
@@ -286,7 +488,7 @@ static inline void jakumshe_put_number(uint8_t bytes[8], uint64_t number)
 }
 
 /* The number that 8 bytes of a value spell. */
-static inline uint64_t jakumshe_number(const uint8_t bytes[8])
+JAKUMSHE_CALL uint64_t jakumshe_number(const uint8_t bytes[8])
 {
     uint64_t number = 0;
     for (int place = 0; place < 8; place++)

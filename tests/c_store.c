@@ -1,55 +1,23 @@
 /* Stores of the face for C. `c_store faces FOLDER` makes stores below the folder, and prints each line whose call has
- * another status than that which the line says, and then how many had the right one. `c_store pay FOLDER N` adds 1 to a
- * counter N times, each time in a transaction of its own, and prints the sum once that is committed; `c_store read FOLDER`
- * prints it alone. */
+ * another status than that which the line says, and then how many had the right one. `c_store pay FOLDER N [EACH]` adds 1
+ * to a counter N times, each time in a transaction of its own, and prints the sum once that is committed; where EACH is
+ * given the store is compacted after each so many. `c_store read FOLDER` prints the sum alone. */
 #define _DEFAULT_SOURCE
 #include "expect.h"
-#include "jakumshe_store.h"
+#include "stores.h"
 
-#include <fcntl.h>
 #include <inttypes.h>
+#include <pthread.h>
 #include <signal.h>
 #include <stdio.h>
 #include <stdlib.h>
 #include <string.h>
 #include <sys/resource.h>
 #include <sys/stat.h>
-#include <unistd.h>
-
-static char *below(const char *folder, const char *name)
-{
-    static char paths[4][4096];
-    static int next;
-    char *path = paths[next++ % 4];
-    snprintf(path, sizeof paths[0], "%s/%s", folder, name);
-    return path;
-}
 
 static void write_file(const char *path, const char *text)
 {
-    FILE *file = fopen(path, "w");
-    if (file == NULL || fputs(text, file) < 0 || fclose(file) != 0)
-        abort();
-}
-
-/* Adds 1 to the counter, and gives the sum. */
-static int count_up(struct jakumshe_store *store, uint64_t *sum)
-{
-    uint64_t txn;
-    struct jakumshe_value value;
-    uint8_t none[8] = { 0 };
-    int status = jakumshe_begin(&store->node, &txn);
-    if (status != JAKUMSHE_DONE)
-        return status;
-    status = jakumshe_insert(&store->node, txn, "n", 1, none, sizeof none);
-    if (status == JAKUMSHE_DONE || status == JAKUMSHE_EXISTS)
-        status = jakumshe_add(&store->node, txn, "n", 1, 1);
-    if (status == JAKUMSHE_DONE)
-        status = jakumshe_get(&store->node, txn, "n", 1, &value);
-    if (status != JAKUMSHE_DONE)
-        return status;
-    *sum = jakumshe_number(value.bytes);
-    return jakumshe_store_commit(store, txn);
+    write_bytes(path, text, strlen(text));
 }
 
 static void refuse_calls(const char *folder)
@@ -60,14 +28,19 @@ static void refuse_calls(const char *folder)
     EXPECT(JAKUMSHE_NULL, jakumshe_store_open(&store, NULL));
     EXPECT(JAKUMSHE_NULL, jakumshe_store_commit(NULL, 1));
     EXPECT(JAKUMSHE_NULL, jakumshe_store_sync(NULL));
+    EXPECT(JAKUMSHE_NULL, jakumshe_store_compact(NULL));
     EXPECT(JAKUMSHE_NULL, jakumshe_store_close(NULL));
     EXPECT(JAKUMSHE_CLOSED, jakumshe_store_commit(&store, 1));
     EXPECT(JAKUMSHE_CLOSED, jakumshe_store_sync(&store));
+    EXPECT(JAKUMSHE_CLOSED, jakumshe_store_compact(&store));
     EXPECT(JAKUMSHE_CLOSED, jakumshe_store_close(&store));
     EXPECT(JAKUMSHE_DONE, jakumshe_store_open(&store, below(folder, "calls")));
     EXPECT(JAKUMSHE_OPEN, jakumshe_store_open(&store, below(folder, "calls")));
     EXPECT(JAKUMSHE_LOCKED, jakumshe_store_open(&other, below(folder, "calls")));
     EXPECT(JAKUMSHE_NOT_OPEN, jakumshe_store_commit(&store, 77));
+    EXPECT(JAKUMSHE_STORED, jakumshe_commit(&store.node, 77));
+    EXPECT(JAKUMSHE_STORED, jakumshe_renew(&store.node));
+    EXPECT(JAKUMSHE_STORED, jakumshe_close(&store.node));
     EXPECT(JAKUMSHE_DONE, count_up(&store, &sum));
     EXPECT(JAKUMSHE_DONE, jakumshe_store_sync(&store));
     EXPECT(JAKUMSHE_DONE, jakumshe_store_close(&store));
@@ -131,22 +104,6 @@ static void fail_to_write(const char *folder)
     EXPECT(JAKUMSHE_DONE, jakumshe_store_close(&store));
 }
 
-static size_t read_file(const char *path, uint8_t *bytes, size_t room)
-{
-    int file = open(path, O_RDONLY);
-    ssize_t length = file < 0 ? -1 : read(file, bytes, room);
-    if (length < 0 || close(file) != 0)
-        abort();
-    return (size_t)length;
-}
-
-static void write_bytes(const char *path, const uint8_t *bytes, size_t length)
-{
-    int file = open(path, O_WRONLY | O_CREAT | O_TRUNC, 0666);
-    if (file < 0 || write(file, bytes, length) != (ssize_t)length || close(file) != 0)
-        abort();
-}
-
 /* Whether a file has this text alone. */
 static int has_text(const char *path, const char *text)
 {
@@ -173,6 +130,17 @@ static void go_on_from_version_1(const char *folder)
     EXPECT(JAKUMSHE_DONE, count_up(&store, &sum));
     EXPECT(JAKUMSHE_DONE, jakumshe_store_close(&store));
     EXPECT(1, has_text(below(folder, "old/store"), "jakumshe store 2 0000000000000000\n"));
+    EXPECT(JAKUMSHE_DONE, jakumshe_store_open(&store, below(folder, "old")));
+    EXPECT(JAKUMSHE_DONE, count_up(&store, &sum));
+    EXPECT(2, (int)sum);
+    EXPECT(JAKUMSHE_DONE, jakumshe_store_close(&store));
+    write_file(below(folder, "old/store"), "jakumshe store 1\n");
+    write_bytes(below(folder, "old/log"), old_log, sizeof old_log);
+    EXPECT(JAKUMSHE_DONE, jakumshe_store_open(&store, below(folder, "old")));
+    EXPECT(JAKUMSHE_DONE, jakumshe_store_compact(&store));
+    EXPECT(1, has_text(below(folder, "old/store"), "jakumshe store 2 0000000000000000\n"));
+    EXPECT(JAKUMSHE_DONE, count_up(&store, &sum));
+    EXPECT(JAKUMSHE_DONE, jakumshe_store_close(&store));
     EXPECT(JAKUMSHE_DONE, jakumshe_store_open(&store, below(folder, "old")));
     EXPECT(JAKUMSHE_DONE, count_up(&store, &sum));
     EXPECT(2, (int)sum);
@@ -256,6 +224,41 @@ static void damage(const char *folder)
     close(log);
 }
 
+enum { TURNS = 300 };
+
+static struct jakumshe_store shared = JAKUMSHE_CLOSED_STORE;
+static pthread_mutex_t turn = PTHREAD_MUTEX_INITIALIZER;
+
+/* Counts in a store that another thread has opened and a third one uses; each call is made under the mutex. */
+static void *count_shared(void *wrongs)
+{
+    uint64_t sum;
+    for (int n = 0; n < TURNS; n++) {
+        pthread_mutex_lock(&turn);
+        *(int *)wrongs += count_up(&shared, &sum) != JAKUMSHE_DONE;
+        if (n % 50 == 49)
+            *(int *)wrongs += jakumshe_store_compact(&shared) != JAKUMSHE_DONE;
+        pthread_mutex_unlock(&turn);
+    }
+    return NULL;
+}
+
+static void share(const char *folder)
+{
+    pthread_t threads[2];
+    int wrongs[2] = { 0, 0 };
+    uint64_t sum = 0;
+    EXPECT(JAKUMSHE_DONE, jakumshe_store_open(&shared, below(folder, "shared")));
+    for (int n = 0; n < 2; n++)
+        EXPECT(0, pthread_create(&threads[n], NULL, count_shared, &wrongs[n]));
+    for (int n = 0; n < 2; n++)
+        EXPECT(0, pthread_join(threads[n], NULL));
+    EXPECT(0, wrongs[0] + wrongs[1]);
+    EXPECT(JAKUMSHE_DONE, count_up(&shared, &sum));
+    EXPECT(2 * TURNS + 1, (int)sum);
+    EXPECT(JAKUMSHE_DONE, jakumshe_store_close(&shared));
+}
+
 static int faces(const char *folder)
 {
     refuse_calls(folder);
@@ -264,6 +267,7 @@ static int faces(const char *folder)
     go_on_from_version_1(folder);
     tell_stores_apart(folder);
     damage(folder);
+    share(folder);
     printf("%d right, %d wrong\n", right, wrong);
     return wrong == 0 ? EXIT_SUCCESS : EXIT_FAILURE;
 }
@@ -274,19 +278,39 @@ static int fail(const char *what, int status)
     return EXIT_FAILURE;
 }
 
-static int pay(const char *folder, long count)
+/* Adds 1 to the counter. Where the system refuses a call the commit's block is written again. */
+static int count_once(struct jakumshe_store *store, uint64_t *sum)
+{
+    int status = count_up(store, sum);
+    return status == JAKUMSHE_DEVICE ? jakumshe_store_sync(store) : status;
+}
+
+/* Compacts the store, or leaves it as it was; or it is closed, and opened again. */
+static int compact(struct jakumshe_store *store, const char *folder)
+{
+    int status = jakumshe_store_compact(store);
+    if (status == JAKUMSHE_DONE || status == JAKUMSHE_NO_MEMORY || status == JAKUMSHE_DEVICE)
+        status = jakumshe_store_sync(store);
+    return status == JAKUMSHE_CLOSED ? jakumshe_store_open(store, folder) : status;
+}
+
+static int pay(const char *folder, long count, long each)
 {
     struct jakumshe_store store = JAKUMSHE_CLOSED_STORE;
     uint64_t sum = 0;
     int status = jakumshe_store_open(&store, folder);
     if (status != JAKUMSHE_DONE)
         return fail("open", status);
-    for (long n = 0; n < count; n++) {
-        status = count_up(&store, &sum);
+    for (long n = 1; n <= count; n++) {
+        status = count_once(&store, &sum);
         if (status != JAKUMSHE_DONE)
             return fail("count", status);
         printf("%" PRIu64 "\n", sum);
         fflush(stdout);
+        if (each > 0 && n % each == 0)
+            status = compact(&store, folder);
+        if (status != JAKUMSHE_DONE)
+            return fail("compact", status);
     }
     jakumshe_store_close(&store);
     return EXIT_SUCCESS;
@@ -313,10 +337,10 @@ int main(int count, char **words)
 {
     if (count == 3 && strcmp(words[1], "faces") == 0)
         return faces(words[2]);
-    if (count == 4 && strcmp(words[1], "pay") == 0)
-        return pay(words[2], atol(words[3]));
+    if ((count == 4 || count == 5) && strcmp(words[1], "pay") == 0)
+        return pay(words[2], atol(words[3]), count == 5 ? atol(words[4]) : 0);
     if (count == 3 && strcmp(words[1], "read") == 0)
         return read_counter(words[2]);
-    fprintf(stderr, "usage: c_store faces|read FOLDER, c_store pay FOLDER N\n");
+    fprintf(stderr, "usage: c_store faces|read FOLDER, c_store pay FOLDER N [EACH]\n");
     return 2;
 }

@@ -1,9 +1,15 @@
 -- What the room of C's holds.
-use Rattle.std.specs.Prelude.{◌≡◌, ◌⊎◌, ℕ, List, [], ◌∷◌, ◌++◌, length, take, reverse, Result, Ok, Err}
+use Rattle.std.specs.Prelude.{◌≡◌, ◌⊎◌, ℕ, List, [], ◌∷◌, ◌++◌, length, take, reverse, Option, None, Some, Result, Ok, Err}
 use Rattle.record_key.specs.Rows.{Row}
 use Rattle.jakumshe.specs.declared.fault.Fault.{Fault}
+use Rattle.jakumshe.specs.declared.records.KeyBytes.{KeyBytes}
 use Rattle.jakumshe.specs.declared.records.ValueBytes.{ValueBytes}
 use Rattle.jakumshe.specs.declared.records.RowBytes.{RowBytes}
+
+-- these bytes are the key's, or there is none
+abbrev pub HoldsKey : KeyBytes → Option (List ℕ) → Type 0
+HoldsKey b None = b.length ≡ 0
+HoldsKey b (Some key) = (b.length ≡ length key) × (take (length key) b.bytes ≡ key)
 
 -- these bytes are the value's
 abbrev pub HoldsValue : ValueBytes → List ℕ → Type 0
@@ -18,6 +24,11 @@ HoldsRow b key value =
 abbrev pub PutsValue : Result (List ℕ) Fault → ValueBytes → ValueBytes → Type 0
 PutsValue (Ok value) before after = HoldsValue after value
 PutsValue (Err fault) before after = after ≡ before
+
+-- there is this key, or what was there before where the call gives nothing
+abbrev pub PutsKey : Result ℕ Fault → Option (List ℕ) → KeyBytes → KeyBytes → Type 0
+PutsKey (Ok count) key before after = HoldsKey after key
+PutsKey (Err fault) key before after = after ≡ before
 
 -- the first ones hold these rows
 abbrev pub HoldRows : List RowBytes → List Row → Type 0

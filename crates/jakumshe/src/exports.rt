@@ -18,6 +18,9 @@ use crate::records::{NameText, RowBytes, ValueBytes};
 use record_key::{Op, Refusal};
 use std::alloc::Global;
 
+/// The library's version, as CHANGELOG.md numbers them and include/jakumshe.h says it.
+const VERSION: &str = "0.2.0";
+
 /// Makes a node in a handle that has none. Refused Open, NoMemory, or as the first settle of a node is.
 #[unsafe(no_mangle)]
 pub extern "C" fn jakumshe_raw_open(handle: &mut Handle, alloc: Global) -> i32
@@ -357,4 +360,10 @@ pub extern "C" fn jakumshe_raw_commit(handle: &mut Handle, alloc: Global, txn: u
 #[unsafe(no_mangle)]
 pub extern "C" fn jakumshe_raw_name(status: i32, name: &mut NameText) {
     name.put(name_of(status));
+}
+
+/// Gives the version of the library.
+#[unsafe(no_mangle)]
+pub extern "C" fn jakumshe_raw_version(version: &mut NameText) {
+    version.put(VERSION);
 }

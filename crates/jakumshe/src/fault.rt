@@ -1,6 +1,6 @@
 //! How a call ends.
 ghost use Rattle.std.specs.Prelude.{◌≡◌, pos, OnOk, IfErr};
-ghost use Rattle.jakumshe.specs.Statuses.{status, fault_of, EndsWithStatus};
+ghost use Rattle.jakumshe.specs.Statuses.{status, fault_of, renewal_fault, EndsWithStatus};
 ghost use Rattle.jakumshe.specs.declared.fault.Fault.TheVariants.{Refused};
 
 use node_store::Cause;
@@ -32,11 +32,13 @@ pub enum Fault {
     Checkpoint,
     /// A block of a log's file isn't what was written.
     Damaged,
+    /// A transaction is open.
+    Active,
 }
 
 impl Fault {
-    /// The status of a call that ends so: 1 to 20 of a refusal, 33 to 41 of another fault. 32 tells of a null pointer, and
-    /// is given by the header alone; 42 to 44 are of a store's files, which C opens.
+    /// The status of a call that ends so: 1 to 20 of a refusal, 33 to 41 and 45 of another fault. 32 tells of a null pointer
+    /// and 46 of a store's node, and are given by the header alone; 42 to 44 are of a store's files, which C opens.
     pub fn status(self) -> i32
         ensures { result ≡ pos (status self) }
     {
@@ -51,6 +53,7 @@ impl Fault {
             Fault::WrongAnswer => 39,
             Fault::Checkpoint => 40,
             Fault::Damaged => 41,
+            Fault::Active => 45,
         }
     }
 }
@@ -71,6 +74,16 @@ pub fn fault_of(cause: Cause) -> Fault
         Cause::Refused(refusal) => Fault::Refused(refusal),
         Cause::Checkpoint(_) => Fault::Checkpoint,
         Cause::WrongAnswer(_) => Fault::WrongAnswer,
+    }
+}
+
+/// Why a node isn't renewed that has come to rest: it is only told NotNow where a transaction is open.
+pub fn renewal_fault(refusal: Refusal) -> Fault
+    ensures { result ≡ renewal_fault refusal }
+{
+    match refusal {
+        Refusal::NotNow => Fault::Active,
+        refusal => Fault::Refused(refusal),
     }
 }
 
@@ -103,6 +116,8 @@ pub fn name_of(status: i32) -> &'static str {
         42 => "Locked",
         43 => "NotAStore",
         44 => "Version",
+        45 => "Active",
+        46 => "Stored",
         _ => match refusal_of(status) {
             Some(refusal) => refusal.name(),
             None => "Unknown",

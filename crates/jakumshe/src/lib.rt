@@ -12,8 +12,10 @@ mod handle;
 mod logs;
 mod node;
 mod ops;
+mod parts;
 mod records;
+mod renewal;
 mod told;
 
 pub use handle::Handle;
-pub use records::{HeadBytes, NameText, RowBytes, ValueBytes};
+pub use records::{HeadBytes, KeyBytes, NameText, RowBytes, ValueBytes};

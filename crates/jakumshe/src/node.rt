@@ -7,15 +7,18 @@ ghost use Rattle.jakumshe.specs.declared.fault.Fault.TheVariants.{Refused};
 ghost use Rattle.jakumshe.specs.Calls.{ComesToRest, StopsSettling, IsStepped, IsTold, IsNew, NotNew, RefusesEvent, Fails, Makes, Tells, Operates, Reads, begins, saves, finds, goes_back, rolls_back, commits, end_of};
 ghost use Rattle.jakumshe.specs.Logs.{IsMadeOn, IsOpenedOn, IsBroughtUp, NotOpened, Copies, stable_bytes};
 ghost use Rattle.jakumshe.specs.Records.{IsPageOfRows};
+ghost use Rattle.jakumshe.specs.Renewal.{IsRenewalOf, IsRenewed, NotRenewed};
 ghost use Rattle.node_store.specs.Opening.{IsRefusedFor};
+ghost use Rattle.node_store.specs.Renewal.{RefusesRenewal};
 
-use crate::fault::{Fault, fault_of};
+use crate::fault::{Fault, fault_of, renewal_fault};
 use crate::records::RowBytes;
 use crate::{ops, told};
-use node_store::{Cause, open};
+use node_store::{Cause, open, renew};
 use record_key::{Key, Op, Refusal, Value};
 use stable::{LogDevice, MemLog, MemPages};
 use std::alloc::Global;
+use std::mem::swap;
 use world::{Event, Out, World, bring_up, settle};
 
 #[derive(Drop)]
@@ -83,6 +86,42 @@ impl Node {
         }
     }
 
+    /// A node with just the records of this one: its log is that of one transaction, which has inserted them and has
+    /// committed. So numbers of transactions begin anew there. This node comes to rest, and else is as it was. Refused
+    /// Active where a transaction is open.
+    pub fn renewed(&mut self) -> Result<Node, Fault>
+        ensures made { IfOk result (λ node. IsRenewed self.old.world self.new.world node.world) }
+        ensures refused { IfErr result (NotRenewed self.old.world self.new.world) }
+        ensures rows { self.new.rows ≡ self.old.rows }
+    {
+        match self.settled() {
+            Ok(_) => {}
+            Err(refusal) => return Err(Fault::Refused(refusal)),
+        }
+        let mut node = match renewal_of(self.alloc, &self.world) {
+            Ok(node) => node,
+            Err(refusal) => return Err(renewal_fault(refusal)),
+        };
+        match node.bring_up() {
+            Ok(()) => Ok(node),
+            Err(refusal) => Err(Fault::Refused(refusal)),
+        }
+    }
+
+    /// Takes what is left of the rows that another node has read last.
+    pub fn take_rows(&mut self, other: &mut Node)
+        ensures world { self.new.world ≡ self.old.world }
+        ensures rows { self.new.rows ≡ other.old.rows }
+    {
+        swap(&mut self.rows, &mut other.rows);
+    }
+
+    pub fn world(&self) -> &World
+        ensures { result.now ≡ self.now.world }
+    {
+        &self.world
+    }
+
     /// A new transaction's number.
     pub fn begin(&mut self) -> Result<u64, Fault>
         ensures begun { Makes self.old.world event.Begin begins result self.new.world }
@@ -138,7 +177,8 @@ impl Node {
         self.read(txn, low, high)
     }
 
-    fn read(&mut self, txn: u64, low: Key, high: Option<Key>) -> Result<usize, Fault>
+    /// The same of a range's ends.
+    pub fn read(&mut self, txn: u64, low: Key, high: Option<Key>) -> Result<usize, Fault>
         ensures { Reads self.old.world txn low high self.old.rows.items self.new.rows.items result self.new.world }
     {
         let told = match self.call(&Event::Scan { txn, low, high }) {
@@ -306,6 +346,22 @@ fn node_on(alloc: Global, log: MemLog) -> Result<Node, Cause>
             rows: Vec::new(alloc),
         }),
         Err(left) => Err(left.cause),
+    }
+}
+
+/// A node, not yet brought to rest, on a log that has just the records of a quiet one. Refused NotNow where that isn't.
+fn renewal_of(alloc: Global, world: &World) -> Result<Node, Refusal>
+    ensures made { IfOk result (λ node. IsRenewalOf world.now node.world) }
+    ensures refused { IfErr result (RefusesRenewal world.now) }
+{
+    let (log, tree) = (MemLog::new(alloc), MemLog::new(alloc));
+    match renew(alloc, world, log, tree, MemPages::new(alloc)) {
+        Ok(world) => Ok(Node {
+            alloc,
+            world,
+            rows: Vec::new(alloc),
+        }),
+        Err(left) => Err(left.refusal),
     }
 }
 

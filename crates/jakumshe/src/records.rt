@@ -1,5 +1,6 @@
 //! What C is given of keys, values and names: bytes of a fixed room, each with how many of them there are.
-ghost use Rattle.jakumshe.specs.Records.{HoldsValue, HoldsRow};
+ghost use Rattle.std.specs.Option.{option_copied};
+ghost use Rattle.jakumshe.specs.Records.{HoldsKey, HoldsValue, HoldsRow};
 
 use log_blocks::HEAD_LEN;
 use record_key::{Key, Value};
@@ -19,6 +20,28 @@ impl ValueBytes {
         ensures { HoldsValue self.new value.now }
     {
         let bytes = value.as_bytes();
+        self.length = bytes.len() as u8;
+        self.bytes[..bytes.len()].copy_from_slice(bytes);
+    }
+}
+
+/// A key, or none where its length is 0.
+#[repr(C)]
+#[derive(Drop)]
+pub struct KeyBytes {
+    length: u8,
+    bytes: [u8; Key::MAX_LEN],
+}
+
+impl KeyBytes {
+    pub(crate) fn put(&mut self, key: Option<&Key>)
+        ensures { HoldsKey self.new (option_copied key.entry) }
+    {
+        let Some(key) = key else {
+            self.length = 0;
+            return;
+        };
+        let bytes = key.as_bytes();
         self.length = bytes.len() as u8;
         self.bytes[..bytes.len()].copy_from_slice(bytes);
     }
