@@ -102,9 +102,14 @@ fn compacted<R: AllocGlobal>(rt: &R, node: &Node) -> Result<u64, Refusal> {
     let log = FileLog::volatile(rt.alloc());
     let tree = FileLog::volatile(rt.alloc());
     match renew(rt.alloc(), node, log, tree, NoPages::new()) {
-        Ok(renewed) => Ok(renewed.stable_bytes()?.len() as u64),
+        Ok(renewed) => log_len(&renewed),
         Err(left) => Err(left.refusal),
     }
+}
+
+// (whoever has a node by value is dear to check with each way out)
+fn log_len(node: &Node) -> Result<u64, Refusal> {
+    Ok(node.stable_bytes()?.len() as u64)
 }
 
 fn print_contents<R: Print>(rt: &R, blocks: u64, contents: &Contents) -> u8 {
