@@ -17,7 +17,8 @@ STORES = [20000, 1000, 1, 20000, 5000, 1, 20000, 20000, 1, 100000, 100000, 10]
 
 
 def script(commits, keys, each):
-    """Each operation is sent before it is stable; the log is forced once, at the commit."""
+    """Each operation is sent before it is stable. The log is forced once, at the commit, and the other component told:
+    before that no leaf is split that an operation has changed. As many leaves are tended then as it may be."""
     number = 0
     for txn in range(commits):
         yield f"begin t{txn}\n"
@@ -25,7 +26,7 @@ def script(commits, keys, each):
             # Keys are scattered: the step has no factor in common with these counts.
             yield f"upsert t{txn} k{number * 7919 % keys:07} {VALUE}\nsend t{txn}\nreq 1\nrep 1\nforget\n"
             number += 1
-        yield f"commit t{txn}\nforce\ntend\n"
+        yield f"commit t{txn}\nforce\ntell\nreq 1\nforget\n" + each * "tend\n"
 
 
 def make(program, store, commits, keys, each):

@@ -126,11 +126,12 @@ struct jakumshe_key {
     uint8_t bytes[JAKUMSHE_KEY_ROOM];
 };
 
-/* A place in a range that a transaction reads, as jakumshe_start has made it and jakumshe_next moves it. */
+/* What is left of a range that a transaction reads, as jakumshe_start has made it and jakumshe_next reads on. */
 struct jakumshe_cursor {
     uint64_t txn;
-    struct jakumshe_key next; /* where it goes on */
-    struct jakumshe_key high; /* the range's upper end, none where its length is 0 */
+    struct jakumshe_key low;  /* the rows that are left are at this key or above it */
+    struct jakumshe_key high; /* and below this one, to the end where its length is 0 */
+    int is_backward;          /* whether the last one is read next */
     int is_at_end;
 };
 
@@ -162,6 +163,8 @@ int jakumshe_raw_scan(struct jakumshe_node *node, uint64_t txn, const uint8_t *l
                       const uint8_t *high, size_t high_length, size_t *count);
 int jakumshe_raw_scan_part(struct jakumshe_node *node, uint64_t txn, const uint8_t *low, size_t low_length,
                            const uint8_t *high, size_t high_length, struct jakumshe_key *end, size_t *count);
+int jakumshe_raw_scan_part_back(struct jakumshe_node *node, uint64_t txn, const uint8_t *low, size_t low_length,
+                                const uint8_t *high, size_t high_length, struct jakumshe_key *begin, size_t *count);
 int jakumshe_raw_page(struct jakumshe_node *node, struct jakumshe_row *rows, size_t room, size_t *count);
 int jakumshe_raw_save(struct jakumshe_node *node, uint64_t txn, uint64_t *savepoint);
 int jakumshe_raw_go_back(struct jakumshe_node *node, uint64_t txn, uint64_t savepoint);
@@ -334,21 +337,44 @@ JAKUMSHE_CALL int jakumshe_compare(const struct jakumshe_key *key, const struct 
     return (int)key->length - (int)other->length;
 }
 
-/* Moves the cursor behind a row, to the least key that is above it. Not for callers. */
+/* Makes of a key the least one that is above all that begin with it; where there is none, of length 0. Not for callers. */
+JAKUMSHE_CALL void jakumshe_leave(struct jakumshe_key *key)
+{
+    while (key->length > 0 && key->bytes[key->length - 1] == 255)
+        key->length--;
+    if (key->length > 0)
+        key->bytes[key->length - 1]++;
+}
+
+/* Takes a row that was read, and all before it, from what is left of the cursor's range. Not for callers. */
 JAKUMSHE_CALL void jakumshe_pass(struct jakumshe_cursor *cursor, const struct jakumshe_row *row)
 {
-    struct jakumshe_key *next = &cursor->next;
-    jakumshe_put_key(next, row->key, row->key_length);
-    if (next->length < JAKUMSHE_KEY_ROOM) {
-        next->bytes[next->length++] = 0;
-    } else {
-        while (next->length > 0 && next->bytes[next->length - 1] == 255)
-            next->length--;
-        if (next->length > 0)
-            next->bytes[next->length - 1]++;
-    }
-    cursor->is_at_end =
-        next->length == 0 || (cursor->high.length > 0 && jakumshe_compare(next, &cursor->high) >= 0);
+    struct jakumshe_key *end = cursor->is_backward ? &cursor->high : &cursor->low;
+    jakumshe_put_key(end, row->key, row->key_length);
+    if (!cursor->is_backward && end->length < JAKUMSHE_KEY_ROOM)
+        end->bytes[end->length++] = 0;
+    else if (!cursor->is_backward)
+        jakumshe_leave(end);
+    cursor->is_at_end = end->length == 0
+        || (cursor->high.length > 0 && jakumshe_compare(&cursor->low, &cursor->high) >= 0);
+}
+
+/* Reads the next part of a cursor's range, at most a leaf's, and gives where the rest of it ends. Not for callers. */
+JAKUMSHE_CALL int jakumshe_read_part(struct jakumshe_node *node, const struct jakumshe_cursor *cursor,
+                                     struct jakumshe_key *end, size_t *count)
+{
+    const struct jakumshe_key *low = &cursor->low, *high = &cursor->high;
+    if (cursor->is_backward)
+        return jakumshe_raw_scan_part_back(node, cursor->txn, low->bytes, low->length, high->bytes, high->length, end,
+                                           count);
+    return jakumshe_raw_scan_part(node, cursor->txn, low->bytes, low->length, high->bytes, high->length, end, count);
+}
+
+/* Moves the cursor to where a part of its range has ended. Not for callers. */
+JAKUMSHE_CALL void jakumshe_go_on(struct jakumshe_cursor *cursor, const struct jakumshe_key *end)
+{
+    *(cursor->is_backward ? &cursor->high : &cursor->low) = *end;
+    cursor->is_at_end = end->length == 0;
 }
 
 /*
@@ -365,20 +391,49 @@ JAKUMSHE_CALL int jakumshe_start(struct jakumshe_cursor *cursor, uint64_t txn, c
     if (low_length > JAKUMSHE_KEY_ROOM || high_length > JAKUMSHE_KEY_ROOM)
         return JAKUMSHE_TOO_LONG;
     cursor->txn = txn;
+    cursor->is_backward = 0;
     cursor->is_at_end = 0;
-    jakumshe_put_key(&cursor->next, jakumshe_bytes(low), low_length);
+    jakumshe_put_key(&cursor->low, jakumshe_bytes(low), low_length);
     jakumshe_put_key(&cursor->high, jakumshe_bytes(high), high_length);
     return JAKUMSHE_DONE;
 }
 
 /*
- * Gives the next rows of a cursor's range, in the order of their keys, as many as there is room for, and how many these
- * are: none where no more are left; there may be fewer than there is room for before. The node keeps no copy of them, but
- * for what the last leaf has of the range. Of the range just what was read is locked, until the transaction ends: so what
- * was read stays as it is for others, and further on the rows are as they are when they are read, with what the
- * transaction itself has done since it made the cursor. That is still as if it had read them all at its end. It takes the
- * place of what is left of a jakumshe_scan. Refused BAD_RANGE, NOT_OPEN; BUSY where another's lock is met, and then the
- * cursor stays where it is, and may go on later.
+ * Makes a cursor over the rows whose keys begin with these bytes: over all where there are none. It asks nothing of a
+ * node. Refused TOO_LONG.
+ */
+JAKUMSHE_CALL int jakumshe_start_prefix(struct jakumshe_cursor *cursor, uint64_t txn, const void *prefix, size_t length)
+{
+    if (cursor == NULL || !jakumshe_has(prefix, length))
+        return JAKUMSHE_NULL;
+    int status = jakumshe_start(cursor, txn, length > 0 ? prefix : "", length > 0 ? length : 1, NULL, 0);
+    if (status == JAKUMSHE_DONE && length > 0) {
+        cursor->high = cursor->low;
+        jakumshe_leave(&cursor->high);
+    }
+    return status;
+}
+
+/*
+ * Turns a cursor: what is left of its range is read from its other end on, backward if it was read forward before, with
+ * the keys falling, and forward if it was read backward.
+ */
+JAKUMSHE_CALL int jakumshe_turn(struct jakumshe_cursor *cursor)
+{
+    if (cursor == NULL)
+        return JAKUMSHE_NULL;
+    cursor->is_backward = !cursor->is_backward;
+    return JAKUMSHE_DONE;
+}
+
+/*
+ * Gives the next rows of a cursor's range, in the order of their keys, or in the other where it was turned, as many as
+ * there is room for, and how many these are: none where no more are left; there may be fewer than there is room for
+ * before. The node keeps no copy of them, but for what the last leaf has of the range. Of the range just what was read is
+ * locked, until the transaction ends: so what was read stays as it is for others, and further on the rows are as they are
+ * when they are read, with what the transaction itself has done since it made the cursor. That is still as if it had read
+ * them all at its end. It takes the place of what is left of a jakumshe_scan. Refused BAD_RANGE, NOT_OPEN; BUSY where
+ * another's lock is met, and then the cursor stays where it is, and may go on later.
  */
 JAKUMSHE_CALL int jakumshe_next(struct jakumshe_node *node, struct jakumshe_cursor *cursor, struct jakumshe_row *rows,
                                 size_t room, size_t *count)
@@ -389,8 +444,7 @@ JAKUMSHE_CALL int jakumshe_next(struct jakumshe_node *node, struct jakumshe_curs
     while (given < room && !cursor->is_at_end) {
         struct jakumshe_key end;
         size_t there = 0, taken = 0;
-        int status = jakumshe_raw_scan_part(node, cursor->txn, cursor->next.bytes, cursor->next.length,
-                                            cursor->high.bytes, cursor->high.length, &end, &there);
+        int status = jakumshe_read_part(node, cursor, &end, &there);
         if (status != JAKUMSHE_DONE && given == 0)
             return status;
         /* What refuses it then is told by the next call. */
@@ -400,11 +454,33 @@ JAKUMSHE_CALL int jakumshe_next(struct jakumshe_node *node, struct jakumshe_curs
         if (taken < there) {
             jakumshe_pass(cursor, &rows[given - 1]);
         } else {
-            cursor->next = end;
-            cursor->is_at_end = end.length == 0;
+            jakumshe_go_on(cursor, &end);
         }
     }
     *count = given;
+    return JAKUMSHE_DONE;
+}
+
+/*
+ * Gives how many rows are left of a cursor's range; the cursor stays where it is. All of them are locked. It takes the
+ * place of what is left of a jakumshe_scan. Refused BAD_RANGE, NOT_OPEN, BUSY; then some of them may be locked.
+ */
+JAKUMSHE_CALL int jakumshe_count(struct jakumshe_node *node, const struct jakumshe_cursor *cursor, uint64_t *count)
+{
+    if (node == NULL || cursor == NULL || count == NULL)
+        return JAKUMSHE_NULL;
+    struct jakumshe_cursor left = *cursor;
+    uint64_t found = 0;
+    while (!left.is_at_end) {
+        struct jakumshe_key end;
+        size_t there = 0;
+        int status = jakumshe_read_part(node, &left, &end, &there);
+        if (status != JAKUMSHE_DONE)
+            return status;
+        found += there;
+        jakumshe_go_on(&left, &end);
+    }
+    *count = found;
     return JAKUMSHE_DONE;
 }
 

@@ -1,10 +1,12 @@
 #!/bin/sh
 # Usage: tests/built.sh [SHELL]. What no proved crate can try, since it starts other programs: the built shell (without
 # SHELL the one that the gate has built) is killed amid scripts on a store (bench/kill.py, forty runs), opens damaged
-# stores (bench/damage.py), lists in its help what docs/FORMATS.md lists (tests/help.sh), and tells on standard error what
-# it is to (tests/told.py). Takes a minute.
+# stores (bench/damage.py), lists in its help what docs/FORMATS.md lists (tests/help.sh), tells on standard error what it
+# is to (tests/told.py), and commits on a store that is copied meanwhile (tests/copied.py). First that docs/CONTRACTS.md is
+# what the sources say. Takes a minute.
 set -eu
 cd "$(dirname "$0")/.."
+python3 docs/contracts.py --check
 shell=${1:-crates/undo_shell/out/undo_shell}
 if [ ! -x "$shell" ]; then
     (cd crates/undo_shell && rt run -- run --help) >/dev/null
@@ -13,3 +15,4 @@ python3 bench/kill.py "$shell" 40
 python3 bench/damage.py "$shell"
 tests/help.sh "$shell"
 python3 tests/told.py "$shell"
+python3 tests/copied.py "$shell"

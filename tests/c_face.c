@@ -371,6 +371,132 @@ static void walk_among_others(void)
     EXPECT(JAKUMSHE_DONE, jakumshe_close(&node));
 }
 
+/* The keys from one on and below another, or those that begin with the first: a part of all keys, from `first` to `end`. */
+struct part {
+    struct jakumshe_key low, high;
+    int is_prefix;
+    size_t first, end;
+};
+
+static int is_in(const struct part *part, const struct jakumshe_key *key)
+{
+    if (part->is_prefix)
+        return key->length >= part->low.length && memcmp(key->bytes, part->low.bytes, part->low.length) == 0;
+    return compare(key, &part->low) >= 0 && (part->high.length == 0 || compare(key, &part->high) < 0);
+}
+
+static struct part drawn_part(const struct jakumshe_key *keys, size_t count)
+{
+    struct part part = { drawn_key(), drawn_key(), drawn(3) == 0, 0, 0 };
+    if (part.is_prefix)
+        part.low.length = (uint8_t)drawn(drawn(4) == 0 ? LONGEST + 1 : 3);
+    else if (drawn(5) == 0 || compare(&part.low, &part.high) >= 0)
+        part.high.length = 0;
+    while (part.first < count && !is_in(&part, &keys[part.first]))
+        part.first++;
+    for (part.end = part.first; part.end < count && is_in(&part, &keys[part.end]);)
+        part.end++;
+    return part;
+}
+
+/* Takes the rows from the one end or the other of what is left of a part. */
+static void take(struct part *part, const struct jakumshe_key *keys, int is_backward, const struct jakumshe_row *rows,
+                 size_t given)
+{
+    for (size_t row = 0; row < given; row++) {
+        EXPECT(1, part->first < part->end);
+        const struct jakumshe_key *key = is_backward ? &keys[--part->end] : &keys[part->first++];
+        EXPECT(key->length, rows[row].key_length);
+        EXPECT(0, memcmp(key->bytes, rows[row].key, key->length));
+        EXPECT(0, memcmp(key->bytes, rows[row].value, rows[row].value_length));
+    }
+}
+
+/* Ranges and beginnings by cursors that are turned now and then, and counted, beside the keys in their order. */
+static void walk_both_ways(void)
+{
+    static struct jakumshe_key keys[WALKED];
+    struct jakumshe_node node = JAKUMSHE_CLOSED_NODE;
+    struct jakumshe_cursor cursor;
+    struct jakumshe_row rows[200];
+    uint64_t txn, left = 0;
+    EXPECT(JAKUMSHE_DONE, jakumshe_open(&node));
+    size_t count = fill(&node, keys), given = 0;
+    EXPECT(JAKUMSHE_DONE, jakumshe_begin(&node, &txn));
+    for (int n = 0; n < 600; n++) {
+        struct part part = drawn_part(keys, count);
+        const struct jakumshe_key *low = &part.low, *high = &part.high;
+        int is_backward = 0;
+        size_t room = n % 3 == 0 ? 1 + drawn(3) : 1 + drawn(200);
+        if (part.is_prefix)
+            EXPECT(JAKUMSHE_DONE, jakumshe_start_prefix(&cursor, txn, low->bytes, low->length));
+        else
+            EXPECT(JAKUMSHE_DONE, jakumshe_start(&cursor, txn, low->bytes, low->length, high->bytes, high->length));
+        do {
+            if (drawn(2) == 0) {
+                EXPECT(JAKUMSHE_DONE, jakumshe_turn(&cursor));
+                is_backward = !is_backward;
+            }
+            EXPECT(JAKUMSHE_DONE, jakumshe_count(&node, &cursor, &left));
+            EXPECT(1, left == part.end - part.first);
+            EXPECT(JAKUMSHE_DONE, jakumshe_next(&node, &cursor, rows, room, &given));
+            take(&part, keys, is_backward, rows, given);
+        } while (given > 0);
+        EXPECT(1, part.first == part.end);
+    }
+    EXPECT(JAKUMSHE_DONE, jakumshe_commit(&node, txn));
+    EXPECT(JAKUMSHE_DONE, jakumshe_close(&node));
+}
+
+/* What calls on cursors refuse, and what a cursor that goes backward locks. */
+static void walk_back_among_others(void)
+{
+    struct jakumshe_node node = JAKUMSHE_CLOSED_NODE;
+    struct jakumshe_cursor cursor;
+    struct jakumshe_row rows[2];
+    uint64_t txn, other, left = 7;
+    size_t count = 7;
+    EXPECT(JAKUMSHE_NULL, jakumshe_start_prefix(NULL, 1, "a", 1));
+    EXPECT(JAKUMSHE_NULL, jakumshe_start_prefix(&cursor, 1, NULL, 1));
+    EXPECT(JAKUMSHE_TOO_LONG, jakumshe_start_prefix(&cursor, 1, "123456789012345678901234567890123", 33));
+    EXPECT(JAKUMSHE_NULL, jakumshe_turn(NULL));
+    EXPECT(JAKUMSHE_DONE, jakumshe_start_prefix(&cursor, 1, NULL, 0));
+    EXPECT(JAKUMSHE_CLOSED, jakumshe_count(&node, &cursor, &left));
+    EXPECT(JAKUMSHE_DONE, jakumshe_open(&node));
+    EXPECT(JAKUMSHE_NULL, jakumshe_count(NULL, &cursor, &left));
+    EXPECT(JAKUMSHE_NULL, jakumshe_count(&node, NULL, &left));
+    EXPECT(JAKUMSHE_NULL, jakumshe_count(&node, &cursor, NULL));
+    EXPECT(JAKUMSHE_NOT_OPEN, jakumshe_count(&node, &cursor, &left));
+    EXPECT(JAKUMSHE_DONE, jakumshe_begin(&node, &txn));
+    EXPECT(JAKUMSHE_DONE, jakumshe_begin(&node, &other));
+    EXPECT(JAKUMSHE_DONE, jakumshe_start(&cursor, txn, "b", 1, "a", 1));
+    EXPECT(JAKUMSHE_BAD_RANGE, jakumshe_count(&node, &cursor, &left));
+    EXPECT(JAKUMSHE_DONE, jakumshe_turn(&cursor));
+    EXPECT(JAKUMSHE_BAD_RANGE, jakumshe_next(&node, &cursor, rows, 2, &count));
+    EXPECT(7, (int)left);
+    EXPECT(7, (int)count);
+    for (int key = 'a'; key < 'k'; key++) {
+        uint8_t byte = (uint8_t)key;
+        EXPECT(JAKUMSHE_DONE, jakumshe_insert(&node, txn, &byte, 1, "1", 1));
+    }
+    EXPECT(JAKUMSHE_DONE, jakumshe_commit(&node, txn));
+    EXPECT(JAKUMSHE_DONE, jakumshe_begin(&node, &txn));
+    EXPECT(JAKUMSHE_DONE, jakumshe_start(&cursor, txn, "c", 1, "i", 1));
+    EXPECT(JAKUMSHE_DONE, jakumshe_turn(&cursor));
+    EXPECT(JAKUMSHE_DONE, jakumshe_next(&node, &cursor, rows, 2, &count));
+    EXPECT(2, (int)count);
+    EXPECT('h', rows[0].key[0]);
+    EXPECT('g', rows[1].key[0]);
+    EXPECT(JAKUMSHE_BUSY, jakumshe_update(&node, other, "g", 1, "2", 1));
+    EXPECT(JAKUMSHE_DONE, jakumshe_update(&node, other, "i", 1, "2", 1));
+    EXPECT(JAKUMSHE_DONE, jakumshe_count(&node, &cursor, &left));
+    EXPECT(4, (int)left);
+    EXPECT(JAKUMSHE_BUSY, jakumshe_delete(&node, other, "c", 1));
+    EXPECT(JAKUMSHE_DONE, jakumshe_commit(&node, txn));
+    EXPECT(JAKUMSHE_NOT_OPEN, jakumshe_next(&node, &cursor, rows, 2, &count));
+    EXPECT(JAKUMSHE_DONE, jakumshe_close(&node));
+}
+
 int main(void)
 {
     struct jakumshe_node node = JAKUMSHE_CLOSED_NODE, other = JAKUMSHE_CLOSED_NODE;
@@ -393,6 +519,8 @@ int main(void)
     EXPECT(JAKUMSHE_DONE, jakumshe_close(&node));
     walk();
     walk_among_others();
+    walk_both_ways();
+    walk_back_among_others();
     renew();
     renew_by_itself(&node, 0, 0);
     renew_by_itself(&node, 0, 1);

@@ -3,6 +3,7 @@
 and which stores it makes. Prints a line for each case that differs, and how many agree; exit status 1 where one differs.
 """
 import os
+import pty
 import resource
 import shutil
 import signal
@@ -38,6 +39,11 @@ def summed(total, data):
         a = (a + x + b) & 0xffffffff
         b = (b + y + a) & 0xffffffff
     return a << 32 | b
+
+
+def cut(text):
+    """As much of a line or a word as is shown."""
+    return text if len(text) <= 60 else text[:60] + ".."
 
 
 class Cases:
@@ -97,13 +103,18 @@ class Cases:
 
     def stores(self):
         for folder in ("typo", "none/store"):
-            for task in ("run", "run --read-only", "compact", "check"):
+            for task in ("run", "run --read-only", "compact", "check", "dump", "stat"):
                 hint = "; --create makes one in an empty folder" if task == "run" else ""
                 self.run(f"{task} --store {folder}", "table\n", 2, "", f"undo_shell: {folder}: {NO_STORE}{hint}\n")
         self.judge("a store that was not to be made", os.path.exists("typo"), False)
         self.run("run --create --read-only --store typo", "", 2, "",
                  "undo_shell: --read-only makes no store, and --create does\n")
-        self.run("check", "", 2, "", "undo_shell: check wants a store: --store FOLDER\n")
+        self.run("load --store typo", "rows 0\n", 2, "",
+                 f"undo_shell: typo: {NO_STORE}; --create makes one in an empty folder\n")
+        for task in ("compact", "check", "dump", "load", "stat"):
+            self.run(task, "", 2, "", f"undo_shell: {task} wants a store: --store FOLDER\n")
+        for flag in ("--create", "--read-only"):
+            self.run(f"run {flag}", "settle\n", 2, "", f"undo_shell: {flag} wants a store: --store FOLDER\n")
         self.run("run --create --store made", BEGUN + "commit t\nsettle\n", 0)
         self.run("run --store made", "table\n", 0, "a=1\nrows 1\n")
         self.run("run --create --store made", "begin t\ninsert t b 2\nsettle\n", 0)
@@ -130,6 +141,94 @@ class Cases:
                  "blocks 5\nbytes 122\nrecords 7\ncommitted 1\nopen 1\nrows 1\ncompacted 74\n")
         self.judge("a store that was checked", os.path.getsize("seen/log"), size)
 
+    def keys(self):
+        """Keys of any bytes, which are told from what stands beside them."""
+        script = "settle\nbegin t\ninsert t #613d620a726f77732037 1\nsettle\nget t #61\nsettle\n"
+        self.run("run", script + "insert t #61 .\nsettle\ntable\n", 0,
+                 "settled\ntxn 2\nlogged 3\nanswer 2 inserted\nsettled\nasked 1\nrow 2 -\nsettled\n"
+                 "logged 5\nanswer 2 inserted\nsettled\na=.\n#613d620a726f77732037=1\nrows 2\n")
+        for word in ("#", "#6", "#6A", "#" + "61" * 121):
+            self.run("run", f"settle\nget t {word}\n", 2, "no 17 BadScript 2\n",
+                     f"undo_shell: line 2 `{cut('get t ' + word)}`: `{cut(word)}` is not a key: letters and digits, a dot, or # "
+                     "and 1 to 120 bytes of two lower case hexadecimal digits\n")
+
+    def dumped(self):
+        """A dump is loaded again, in any order; what isn't one leaves a store as it was."""
+        rows = [b"a=1", b"#00=.", b"#ff0a=#3d", b"b=z"]
+        text = b"\n".join(rows + [b"rows 4"]) + b"\n"
+        wanted = b"\n".join([rows[1], rows[0], rows[3], rows[2], b"rows 4"]).decode() + "\n"
+        self.run("load --create --store one", text.decode(), 0, "4 records are put\n")
+        self.run("dump --store one", "", 0, wanted)
+        self.run("load --create --store two", wanted.rstrip("\n"), 0, "4 records are put\n")
+        self.run("load --store two", "a=2\nrows 1\n", 0, "1 records are put\n")
+        self.run("dump --store two", "", 0, wanted.replace("a=1", "a=2"))
+        self.run("stat --store two", "", 0, "rows 4\nkey bytes 5\nvalue bytes 3\nlongest key 2\nlongest value 1\nleaves 1\n")
+        record = "is no record `K=V`, nor `rows N`"
+        for bad, reason in (("", "the text is cut: `rows N` isn't its last line"),
+                            ("a=3\n", "the text is cut: `rows N` isn't its last line"),
+                            ("a=3\nrows 2\n", "the text has 1 records, and says 2"),
+                            ("a=3\nrows 1\nb=3\n", "something stands behind the line `rows N`"),
+                            ("a=3\nb\nrows 2\n", f"line 2 {record}"), ("a=3\n\nrows 1\n", f"line 2 {record}"),
+                            ("a=3\nrows 01\n", f"line 2 {record}"), (".=3\nrows 1\n", f"line 1 {record}"),
+                            (f"{'k' * 33}=3\nrows 1\n", f"line 1 {record}"),
+                            (f"a={'v' * 121}\nrows 1\n", f"line 1 {record}"), ("a=3=4\nrows 1\n", f"line 1 {record}"),
+                            ("a=3\r\nrows 1\n", f"line 1 {record}")):
+            self.run("load --store two", bad, 2, "", f"undo_shell: {reason}: nothing is put\n")
+        self.run("dump --store two", "", 0, wanted.replace("a=1", "a=2"))
+        self.run("load --create --store lost", "a=1\nrows 1\n", 3, "",
+                 "undo_shell: lost: nothing is put: a device failed\nundo_shell: lost: cannot write the store's file `log`: "
+                 "File too large (os error 27)\n", limited)
+        self.run("dump --store lost", "", 0, "rows 0\n",
+                 "undo_shell: lost: the store's file `log`: a torn block of 19 bytes at byte 41 is left out\n")
+        many = "".join(f"k{n * 7919 % 5000:04}={n}\n" for n in range(5000)) + "rows 5000\n"
+        self.run("load --create --store many", many, 0, "5000 records are put\n")
+        self.run("dump --store many", "", 0, "\n".join(sorted(many.splitlines())) + "\n")
+
+    def conversing(self):
+        """Each line is answered before the next is read; one outside the grammar is refused, and the next is read."""
+        process = subprocess.Popen([self.shell, "run", "--interactive"], stdin=subprocess.PIPE, stdout=subprocess.PIPE,
+                                   stderr=subprocess.PIPE)
+        found = []
+        for line, answers in ((b"settle\n", 1), (b"begn t\n", 1), (b"\n# none\nbegin t\n", 1), (b"insert t a 1\n", 1),
+                              (b"settle\n", 2)):
+            process.stdin.write(line)
+            process.stdin.flush()
+            found += [process.stdout.readline() for _ in range(answers)]
+        left, told = process.communicate(b"table")
+        wanted = [b"settled\n", b"no 17 BadScript 2\n", b"txn 2\n", b"logged 3\n", b"answer 2 inserted\n", b"settled\n"]
+        self.judge("a conversation", found, wanted)
+        self.judge("its end", (left, told, process.returncode),
+                   (b"a=1\nrows 1\n", b"undo_shell: line 2 `begn t`: no line begins with `begn`; did you mean `begin`?\n", 2))
+        self.run("run --interactive --strict", "begin t\nbegin t\n", 4, "no 9 NotConnected\nno 9 NotConnected\n",
+                 UNCONNECTED + "undo_shell: 2 lines were refused\n")
+        script = "settle\nfail tclog 1\nbegin t\ntable\n"
+        self.run("run --interactive", script, 3, "settled\nset\nno 10 Device\n")
+        self.run("run --interactive --continue", script, 3, "settled\nset\nno 10 Device\nrows 0\n")
+        self.run("run --create --interactive --store talk", BEGUN + "commit t\nsettle\n", 0)
+        self.run("run --interactive --store talk", "table\n", 0, "a=1\nrows 1\n")
+
+    def on_terminal(self):
+        """A terminal is asked for each line."""
+        signal.alarm(60)  # (a shell that doesn't ask would be waited for)
+        child, end = pty.fork()
+        if child == 0:
+            os.execv(self.shell, [self.shell, "run"])
+        text = b""
+        for line in (b"settle\n", b"table\n", b"\x04"):
+            while not text.endswith(b"> "):
+                text += os.read(end, 4096)
+            os.write(end, line)
+            text += os.read(end, 1)
+        try:
+            while more := os.read(end, 4096):
+                text += more
+        except OSError:  # (so a terminal ends)
+            pass
+        _, status = os.waitpid(child, 0)
+        signal.alarm(0)
+        shown = text.replace(b"\r", b"").replace(b"^D", b"").replace(b"\b", b"")
+        self.judge("a terminal", (shown, os.WEXITSTATUS(status)), (b"> settle\nsettled\n> table\nrows 0\n> \n", 0))
+
     def places(self):
         """Whole blocks of bytes that are no record: the place that is told is the file's."""
         os.mkdir("bad")
@@ -154,6 +253,10 @@ def main(shell):
     cases.stores()
     cases.full_disk()
     cases.checked()
+    cases.keys()
+    cases.dumped()
+    cases.conversing()
+    cases.on_terminal()
     cases.places()
     print(f"what is told: {cases.agree} agree, {cases.differ} differ")
     return 1 if cases.differ else 0

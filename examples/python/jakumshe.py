@@ -8,6 +8,7 @@
                 del t[b"bob"]
             for key, value in t.scan(b"a", b"c"):
                 ...
+            last = list(t.scan(prefix=b"order/", backward=True, limit=10))
 
 Keys are bytes, 1 to 32 of them, and values 0 to 120. A transaction commits at the end of its `with`, or is rolled back
 where that is left by an exception; a savepoint goes back likewise. Each refusal of the library is an exception of its
@@ -61,7 +62,8 @@ class _Key(ctypes.Structure):
 
 
 class _Cursor(ctypes.Structure):
-    _fields_ = [("txn", ctypes.c_uint64), ("next", _Key), ("high", _Key), ("is_at_end", ctypes.c_int)]
+    _fields_ = [("txn", ctypes.c_uint64), ("low", _Key), ("high", _Key), ("is_backward", ctypes.c_int),
+                ("is_at_end", ctypes.c_int)]
 
 
 class _Name(ctypes.Structure):
@@ -79,6 +81,7 @@ def _load():
         "insert": on + [text, size, text, size], "update": on + [text, size, text, size],
         "upsert": on + [text, size, text, size], "delete": on + [text, size], "add": on + [text, size, number],
         "get": on + [text, size, ctypes.POINTER(_Value)], "start": [cursor, number, text, size, text, size],
+        "start_prefix": [cursor, number, text, size], "turn": [cursor], "count": [node, cursor, numbered],
         "next": [node, cursor, ctypes.POINTER(_Row), size, counted], "save": on + [numbered], "go_back": on + [number],
         "roll_back": on, "commit": on, "store_open": [store, text], "store_commit": [store, number],
         "store_sync": [store], "store_compact": [store], "store_close": [store],
@@ -218,10 +221,21 @@ class Transaction:
         """Adds to the number that is there, a value of 8 bytes. Refused NoRecord, NotNumber."""
         self._call("add", key, len(key), amount % 2**64)
 
-    def scan(self, low=b"\0", high=b""):
-        """The rows from one key on, below another or to the end: an iterator of (key, value), which reads a page of them
-        at a time. What it has read is locked until the transaction ends."""
-        return Scan(self, low, high)
+    def scan(self, low=b"\0", high=b"", *, prefix=None, backward=False, limit=None):
+        """The rows from one key on, below another or to the end, or those whose keys begin with `prefix`: an iterator of
+        (key, value), which reads a page of them at a time, from the last one on where it is to go backward, and no more
+        than `limit`. What it has read is locked until the transaction ends."""
+        return Scan(self, _range(self._txn, low, high, prefix), backward, limit)
+
+    def count(self, low=b"\0", high=b"", *, prefix=None):
+        """How many rows such a range has. All of it is locked."""
+        count = ctypes.c_uint64()
+        cursor = _range(self._txn, low, high, prefix)
+        with self._on._lock:
+            if self._is_over:
+                raise NotOpen("count")
+            _call("count", self._on._node, cursor, count)
+        return count.value
 
     def savepoint(self):
         return Savepoint(self)
@@ -270,20 +284,35 @@ class Savepoint:
             self.go_back()
 
 
+def _range(txn, low, high, prefix):
+    """A cursor over a range, or over the keys that begin so."""
+    cursor = _Cursor()
+    if prefix is None:
+        _call("start", cursor, txn, low, len(low), high, len(high))
+    else:
+        _call("start_prefix", cursor, txn, prefix, len(prefix))
+    return cursor
+
+
 class Scan:
     """The rows of a range, read a page at a time."""
 
-    def __init__(self, transaction, low, high):
-        self._transaction, self._cursor, self._rows, self._place = transaction, _Cursor(), [], 0
-        _call("start", self._cursor, transaction._txn, low, len(low), high, len(high))
+    def __init__(self, transaction, cursor, backward, limit):
+        self._transaction, self._cursor, self._rows, self._place = transaction, cursor, [], 0
+        self._left = limit
+        if backward:
+            _call("turn", cursor)
 
     def _take_page(self):
-        rows, count, transaction = (_Row * _PAGE)(), ctypes.c_size_t(), self._transaction
+        size = _PAGE if self._left is None else min(_PAGE, self._left)
+        rows, count, transaction = (_Row * size)(), ctypes.c_size_t(), self._transaction
         with transaction._on._lock:
             if transaction._is_over:
                 raise NotOpen("next")
-            _call("next", transaction._on._node, self._cursor, rows, _PAGE, count)
+            _call("next", transaction._on._node, self._cursor, rows, size, count)
         self._place = 0
+        if self._left is not None:
+            self._left -= count.value
         self._rows = [(bytes(row.key[:row.key_length]), bytes(row.value[:row.value_length]))
                       for row in rows[:count.value]]
 

@@ -35,9 +35,11 @@ class Sqlite:
     def delete(self, key):
         self.base.execute("delete from t where k = ?", (key,))
 
-    def scan(self, low, high):
-        return self.base.execute("select k, v from t where k >= ? and (? = x'' or k < ?) order by k",
-                                 (low, high, high)).fetchall()
+    def scan(self, low=b"", high=b"", prefix=b"", backward=False, limit=None):
+        order = "desc" if backward else "asc"
+        return self.base.execute(f"select k, v from t where k >= ? and (? = x'' or k < ?) and substr(k, 1, ?) = ? "
+                                 f"order by k {order} limit ?",
+                                 (low, high, high, len(prefix), prefix, -1 if limit is None else limit)).fetchall()
 
 
 class Beside(unittest.TestCase):
@@ -47,6 +49,13 @@ class Beside(unittest.TestCase):
 
     def key(self):
         return bytes(self.random.choice(b"ab\x00\xff") for _ in range(self.random.choice([1, 2, 3, 4, 32])))
+
+    def part(self):
+        """A range, or a beginning of keys."""
+        if self.random.random() < 0.4:
+            return {"prefix": self.key()[:self.random.randrange(3)]}
+        low, high = sorted([self.key(), self.key()])
+        return {"low": low, "high": self.random.choice([b"", high]) if low != high else b""}
 
     def value(self):
         return self.random.randbytes(self.random.choice([0, 1, 8, 8, 120]))
@@ -74,11 +83,12 @@ class Beside(unittest.TestCase):
             t.insert(key, value)
             other.put(key, value)
         elif kind == "scan":
-            low, high = sorted([self.key(), self.key()])
-            high = self.random.choice([b"", high]) if low != high else b""
-            scan, again = t.scan(low, high), t.scan(low, high)
-            wanted = other.scan(low, high)
+            part = self.part()
+            how = {"backward": self.random.random() < 0.5, "limit": self.random.choice([None, 0, 1, 70])}
+            scan, again = t.scan(**part, **how), t.scan(**part, **how)
+            wanted = other.scan(**part, **how)
             self.assertEqual(list(zip(scan, again)), list(zip(wanted, wanted)))
+            self.assertEqual(t.count(**part), len(other.scan(**part)))
         elif found is None:
             calls = {"update": (t.update, key, value), "delete": (t.__delitem__, key), "add": (t.add, key, 1)}
             self.refused(jakumshe.NoRecord, *calls[kind])
@@ -126,7 +136,9 @@ class Beside(unittest.TestCase):
 
     def compare(self, node, other):
         with node.transaction() as t:
-            self.assertEqual(list(t.scan()), other.scan(b"", b""))
+            self.assertEqual(list(t.scan()), other.scan())
+            self.assertEqual(list(t.scan(backward=True)), other.scan(backward=True))
+            self.assertEqual(t.count(), len(other.scan()))
 
     def test_node(self):
         other = Sqlite()
@@ -162,6 +174,10 @@ class Beside(unittest.TestCase):
                 t[bytes(33)] = b"v"
             with self.assertRaises(jakumshe.BadRange):
                 next(t.scan(b"b", b"a"))
+            with self.assertRaises(jakumshe.BadRange):
+                t.count(b"b", b"a")
+            with self.assertRaises(jakumshe.TooLong):
+                t.scan(prefix=bytes(33))
             with self.assertRaises(jakumshe.Active):
                 node.renew()
             second = node.transaction()
@@ -176,6 +192,8 @@ class Beside(unittest.TestCase):
             t[b"k"]
         with self.assertRaises(jakumshe.NotOpen):
             next(t.scan())
+        with self.assertRaises(jakumshe.NotOpen):
+            t.count()
         with tempfile.TemporaryDirectory() as folder, jakumshe.Store(folder):
             with self.assertRaises(jakumshe.Locked):
                 jakumshe.Store(folder)

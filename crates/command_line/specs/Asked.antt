@@ -21,14 +21,15 @@ most_number = 281474976710655
 abbrev pub MayCount : List Row → Text → Type 0
 MayCount rows option = (one_of option rows ≡ None) ⊎ NamesCount rows option most_number
 
--- the words may ask for a script, run, explained or drawn, for clients, or for a store, compacted or checked
+-- the words may ask for a script, run, explained or drawn, for clients, or for a store
 abbrev pub MayAskFor : Option (Text × List Row) → Type 0
 MayAskFor None = ⊥
 MayAskFor (Some s) = (s.0 ≡ codes "run")
     ⊎ (((s.0 ≡ codes "pool") × NamesCount s.1 (codes "sessions") 8 × NamesCount s.1 (codes "rounds") 99)
     ⊎ (((s.0 ≡ codes "explain") × MayCount s.1 (codes "at"))
     ⊎ (((s.0 ≡ codes "draw") × MayCount s.1 (codes "last"))
-    ⊎ ((s.0 ≡ codes "compact") ⊎ (s.0 ≡ codes "check")))))
+    ⊎ ((s.0 ≡ codes "compact") ⊎ ((s.0 ≡ codes "check")
+    ⊎ ((s.0 ≡ codes "dump") ⊎ ((s.0 ≡ codes "load") ⊎ (s.0 ≡ codes "stat"))))))))
 
 -- it is this number
 pub record IsGivenNumber (rows : List Row) (option : Text) (n : ℕ) : Type 0 where
@@ -55,15 +56,22 @@ pub record IsSet (rows : List Row) (flag : Text) (set : Bool) : Type 0 where
 abbrev pub IsGivenText : List Row → Text → Option (Bor Text) → Type 0
 IsGivenText rows option name = option_map (λ text. text.now) name ≡ first_of option rows
 
+-- the subcommand of this name, told this store
+abbrev pub NamesStore : Text × List Row → Text → Option (Bor Text) → Type 0
+NamesStore s name store = (s.0 ≡ name) × IsGivenText s.1 (codes "store") store
+
 -- the task is what they ask for
 abbrev pub AsksFor : Option (Text × List Row) → Task → Type 0
 AsksFor None t = ⊥
-AsksFor (Some s) (task.Run continues store reads_only creates strict) = (s.0 ≡ codes "run")
-    × IsSet s.1 (codes "continue") continues × IsGivenText s.1 (codes "store") store
+AsksFor (Some s) (task.Run continues store reads_only creates strict interactive) = NamesStore s (codes "run") store
+    × IsSet s.1 (codes "continue") continues
     × IsSet s.1 (codes "read-only") reads_only × IsSet s.1 (codes "create") creates
-    × IsSet s.1 (codes "strict") strict
-AsksFor (Some s) (task.Compact store) = (s.0 ≡ codes "compact") × IsGivenText s.1 (codes "store") store
-AsksFor (Some s) (task.Check store) = (s.0 ≡ codes "check") × IsGivenText s.1 (codes "store") store
+    × IsSet s.1 (codes "strict") strict × IsSet s.1 (codes "interactive") interactive
+AsksFor (Some s) (task.Compact store) = NamesStore s (codes "compact") store
+AsksFor (Some s) (task.Check store) = NamesStore s (codes "check") store
+AsksFor (Some s) (task.Dump store) = NamesStore s (codes "dump") store
+AsksFor (Some s) (task.Load store creates) = NamesStore s (codes "load") store × IsSet s.1 (codes "create") creates
+AsksFor (Some s) (task.Stat store) = NamesStore s (codes "stat") store
 AsksFor (Some s) (task.Pool sessions rounds) = (s.0 ≡ codes "pool")
     × IsCount s.1 (codes "sessions") 8 sessions × IsCount s.1 (codes "rounds") 99 rounds
 AsksFor (Some s) (task.Explain at) = (s.0 ≡ codes "explain") × IsGivenCount s.1 (codes "at") at
@@ -71,9 +79,12 @@ AsksFor (Some s) (task.Draw last) = (s.0 ≡ codes "draw") × IsGivenCount s.1 (
 
 -- it is a script or a store, or there is a client
 abbrev pub HasClient : Task → Type 0
-HasClient (task.Run continues store reads_only creates strict) = ⊤
+HasClient (task.Run continues store reads_only creates strict interactive) = ⊤
 HasClient (task.Compact store) = ⊤
 HasClient (task.Check store) = ⊤
+HasClient (task.Dump store) = ⊤
+HasClient (task.Load store creates) = ⊤
+HasClient (task.Stat store) = ⊤
 HasClient (task.Pool sessions rounds) = 0 < sessions
 HasClient (task.Explain at) = ⊤
 HasClient (task.Draw last) = ⊤

@@ -61,21 +61,41 @@ creating = flag_option (codes "create")
 abbrev pub counting_refusals : Rule
 counting_refusals = flag_option (codes "strict")
 
--- to run a script, without these two
+-- it is run line by line, as its lines are read
+abbrev pub interacting : Rule
+interacting = flag_option (codes "interactive")
+
+-- to run a script, without these three
 abbrev pub plain_run : App
 plain_run = with_rule (with_rule (with_rule (new_app (codes "run")) continuing) storing) reading
 
 -- to run a script
 abbrev pub run : App
-run = with_rule (with_rule plain_run creating) counting_refusals
+run = with_rule (with_rule (with_rule plain_run creating) counting_refusals) interacting
+
+-- to do something with a store
+abbrev pub on_store : Text → App
+on_store name = with_rule (new_app name) storing
 
 -- to write the log of a store anew
 abbrev pub compact : App
-compact = with_rule (new_app (codes "compact")) storing
+compact = on_store (codes "compact")
 
 -- to look at a store
 abbrev pub check : App
-check = with_rule (new_app (codes "check")) storing
+check = on_store (codes "check")
+
+-- to print the rows of a store
+abbrev pub dump : App
+dump = on_store (codes "dump")
+
+-- to put rows into a store
+abbrev pub load : App
+load = with_rule (on_store (codes "load")) creating
+
+-- to measure the rows of a store
+abbrev pub stat : App
+stat = on_store (codes "stat")
 
 -- to let clients play on threads
 abbrev pub pool : App
@@ -105,15 +125,20 @@ last = numbering (codes "last")
 abbrev pub draw : App
 draw = with_rule (new_app (codes "draw")) last
 
--- the program and all that it may be told: `run`, `pool`, `explain`, `draw`, `compact` or `check`
+-- the program with what it may be told of scripts and clients
+abbrev pub of_scripts : App
+of_scripts =
+    with_subcommand (with_subcommand (with_subcommand (with_subcommand program run.top) pool.top) explain.top) draw.top
+
+-- the program and all that it may be told: also what is done with a store
 abbrev pub command_line : App
 command_line = with_subcommand (with_subcommand
-    (with_subcommand (with_subcommand (with_subcommand (with_subcommand program run.top) pool.top) explain.top) draw.top)
-    compact.top) check.top
+    (with_subcommand (with_subcommand (with_subcommand of_scripts compact.top) check.top) dump.top) load.top) stat.top
 
 -- what it may be told to do
 abbrev pub subcommands : List Shape
-subcommands = run.top ∷ pool.top ∷ explain.top ∷ draw.top ∷ compact.top ∷ check.top ∷ []
+subcommands =
+    run.top ∷ pool.top ∷ explain.top ∷ draw.top ∷ compact.top ∷ check.top ∷ dump.top ∷ load.top ∷ stat.top ∷ []
 
 -- it hands no argument down to subcommands
 abbrev pub IsLocal : Command → Type 0

@@ -6,6 +6,7 @@
 //! they have a fault, ask for help, or where memory runs out.
 #![tactic(auto)]
 
+mod help;
 mod task;
 
 pub use task::{Task, choose};

@@ -7,8 +7,12 @@ ghost use Rattle.clap.specs.Matches.{found_of};
 ghost use Rattle.clap.specs.Simple.{app_of, shape_of, subcommand_of, subcommand_rows_of};
 ghost use Rattle.clap.specs.Walk.{rows_of, rule_of};
 ghost use Rattle.command_line.specs.Asked.{AsksFor, HasClient, IsGivenCount, IsGivenNumber, MayAskFor, MayCount, NamesCount};
-ghost use Rattle.command_line.specs.CommandLine.{IsLocal, check, command_line, compact, counting, draw, explain, flag_option, naming, numbering, plain_run, pool, run, subcommands};
+ghost use Rattle.command_line.specs.CommandLine.{IsLocal, check, command_line, compact, counting, draw, dump, explain, flag_option, load, naming, numbering, on_store, plain_run, pool, run, stat, subcommands};
 
+use crate::help::{
+    CHECKED, CLIENTS, COMPACTED, CONTINUING, CREATING, DRAWN, DUMPED, EXPLAINED, INTERACTIVE,
+    LINES, LOADED, MEASURED, READING, STORING, STRICT, THE_STORE, VERSION,
+};
 use clap::builder::ValueParser;
 use clap::{Arg, ArgAction, ArgMatches, Command, Error};
 use std::alloc::{AllocError, Global};
@@ -20,13 +24,14 @@ pub enum Task<'a> {
     /// A script is read from standard input and run, also on behind a line in which memory or a device failed where it
     /// continues. The node is that of the store in this folder where one is named, else a new one in memory; where it is
     /// to be read only, nothing is written to the store, and where it may be created, it is made if it isn't there. A
-    /// strict run tells how many lines were refused.
+    /// strict run tells how many lines were refused; an interactive one runs each line as soon as it was read.
     Run {
         continues: bool,
         store: Option<&'a str>,
         reads_only: bool,
         creates: bool,
         strict: bool,
+        interactive: bool,
     },
     /// The log of the store in this folder is written anew, with just the records that stand.
     Compact {
@@ -34,6 +39,19 @@ pub enum Task<'a> {
     },
     /// The store in this folder is looked at, and nothing of it is changed.
     Check {
+        store: Option<&'a str>,
+    },
+    /// The rows of the store in this folder are printed, and nothing of it is changed.
+    Dump {
+        store: Option<&'a str>,
+    },
+    /// Rows are read from standard input, as they are printed, and put into the store in this folder; it may be created.
+    Load {
+        store: Option<&'a str>,
+        creates: bool,
+    },
+    /// The rows of the store in this folder are measured, and nothing of it is changed.
+    Stat {
         store: Option<&'a str>,
     },
     /// So many clients, each with a session of its own, play so many rounds on threads.
@@ -50,120 +68,6 @@ pub enum Task<'a> {
         last: Option<u64>,
     },
 }
-
-/// The version of the program.
-const VERSION: &str = "0.2.0";
-
-const LINES: &str = "\
-A script is lines; empty lines and lines that begin with # are skipped.
-
-  begin T       begins a transaction and names it by the label T
-  insert T K V  puts the record K=V for transaction T, where there is none
-  update T K V  gives the record K that is there the value V
-  upsert T K V  puts the record K=V, whether there is one or not
-  delete T K    removes the record K that is there
-  add T K N     adds N to the number that the record K holds, modulo 2 to the power of 64
-  get T K       asks for the value of the record K
-  scan T K K    asks for the records from the first key on, below the second
-  scan T K *    asks for the records from K on
-  save T        sets a savepoint of transaction T, and prints its number
-  back T N      rolls transaction T back to its savepoint N
-  rollback T    rolls transaction T back
-  commit T      commits transaction T, which is told once the log is stable
-  force         makes the log stable
-  send T        sends the unanswered request of transaction T, first or again
-  undo T        does one step of the rollback of transaction T
-  low N         tells the data component that no number up to N is sent again
-  checkpoint    asks the data component to write its leaves, so that redo may begin
-                past the greatest number that was announced by low
-  tell          tells the data component how much of the log is stable
-  req N         delivers the request numbered N
-  rep N         delivers the reply numbered N
-  forget        lets every message go: those can't be delivered any more, and the next
-                request and the next reply are numbered 1
-  split K       splits the leaf that has the key K
-  merge K       joins the leaf that has the key K with the leaf after it
-  tend          splits one leaf that is large, or joins two that are small
-  flush K       writes the leaf that has the key K to its page
-  crash C N N   the component C loses what isn't on its devices; of the records of
-                its log that aren't stable the first N stay, and of the next one
-                the second N bytes
-  restart C     opens the component C on its devices
-  fail D N      the N-th call of the device D from now fails, once
-  connect       starts a session of the two components
-  recover       does one step of recovery
-  settle        lets the node work until nothing is left to do
-  settle N      lets it work for N rounds at most
-  table         prints each record of the data component
-  log           prints each record of the transaction log
-  leaves        prints each leaf of the data component
-
-T is 1 to 8 lower case letters or digits. K and V are letters and digits, or a dot
-for the empty text; a key has 1 to 32 bytes, a value 0 to 120. V may also be # and 1
-to 120 bytes, each as two lower case hexadecimal digits; a value of 8 bytes is a
-number, the greatest part first. N is a decimal number below 2 to the power of 48,
-or of 64 where it is added; of a call it is at least 1. C is tc, the transaction
-component, or dc, the data component. D is tclog or dclog, the log of either, or pages,
-the pages of the data component's leaves. Words are separated by one space. The whole
-script is checked before its first line is run. A second begin T gives the label to
-another transaction: no line can name the first one then, which keeps its locks.
-
-Exit status: 0; 2 for a line or a command line outside the grammar, and for a store
-that can't be opened; 3 where memory or a device failed; else, with --strict, 4 where
-a line was refused.";
-
-const CLIENTS: &str = "\
-Client S writes the round's number to the record sS, inserts it as the record sSrR for
-round R, and commits where R is odd; else it rolls back. After its rounds it reads sS.
-Amid the first client's second round the data component crashes and is restarted.
-
-A line for each client says what it read; then the records follow.
-
-Exit status: 0; 2 for a command line outside the grammar; 3 where memory failed.";
-
-const EXPLAINED: &str = "\
-Behind each line that changes something it says what its events did, how each open
-transaction stands, which keys it holds and what undo does next, how long the log is
-and up to where it is stable, what each leaf has captured, which messages have not
-arrived, and at a crash what was lost. No line is longer than 100 columns.
-undo_shell run --help says what a script is.
-
-Exit status: 0; 2 for a line or a command line outside the grammar; 3 where memory
-or a device failed.";
-
-const DRAWN: &str = "\
-Time runs from left to right, an event a column: the transactions above, then the log,
-the messages, and the leaves below. Of more than 300 events just the last 300 are drawn
-unless a number is given. undo_shell run --help says what a script is.
-
-Exit status: 0; 2 for a line or a command line outside the grammar; 3 where memory
-or a device failed.";
-
-const CONTINUING: &str = "Goes on behind a line in which memory or a device failed";
-
-const STORING: &str = "Keeps the log in this folder, and goes on where the last run on it ended";
-
-const READING: &str =
-    "Opens the store without a lock and writes nothing to it: what the script does is lost";
-
-const CREATING: &str = "Makes the store if it isn't there";
-
-const STRICT: &str = "Tells how many lines were refused, and ends with status 4 if any was";
-
-const CHECKED: &str = "\
-It is opened as run --read-only does: without a lock, and nothing is written. What stands
-in the log is counted, and what an opening would undo, and how long the log would be if
-it were compacted.
-
-Exit status: 0; 2 for a command line outside the grammar, and for a store that can't be
-opened; 3 where memory failed.";
-
-const COMPACTED: &str = "\
-The store's log then has the records that stand, and nothing of how they came about. Whoever
-was left open is undone first. No other program may have the store open.
-
-Exit status: 0; 2 for a command line outside the grammar, and for a store that can't be
-opened; 3 where memory or a device failed.";
 
 /// The greatest number of a line or of events that may be asked for.
 const MOST_NUMBER: u64 = (1 << 48) - 1;
@@ -213,6 +117,22 @@ fn task_of<'a>(matches: &ArgMatches<'a>) -> Task<'a>
             store: asked.get_str("store"),
         };
     }
+    if let Some(asked) = matches.subcommand_matches("dump") {
+        return Task::Dump {
+            store: asked.get_str("store"),
+        };
+    }
+    if let Some(asked) = matches.subcommand_matches("load") {
+        return Task::Load {
+            store: asked.get_str("store"),
+            creates: asked.get_flag("create"),
+        };
+    }
+    if let Some(asked) = matches.subcommand_matches("stat") {
+        return Task::Stat {
+            store: asked.get_str("store"),
+        };
+    }
     match matches.subcommand_matches("run") {
         Some(asked) => Task::Run {
             continues: asked.get_flag("continue"),
@@ -220,6 +140,7 @@ fn task_of<'a>(matches: &ArgMatches<'a>) -> Task<'a>
             reads_only: asked.get_flag("read-only"),
             creates: asked.get_flag("create"),
             strict: asked.get_flag("strict"),
+            interactive: asked.get_flag("interactive"),
         },
         None => unreachable!(),
     }
@@ -266,17 +187,20 @@ fn subcommands<'a>(alloc: Global) -> Result<Vec<Command<'a>>, AllocError>
     ensures local { IfOk result (λ commands. AllByRecursion IsLocal commands.items) }
     ensures shapes { IfOk result (λ commands. map shape_of commands.items ≡ subcommands) }
 {
-    let mut commands = Vec::with_capacity(alloc, 6)?;
+    let mut commands = Vec::with_capacity(alloc, 9)?;
     commands.push(run_command(alloc)?)?;
     commands.push(pool_command(alloc)?)?;
     commands.push(explain_command(alloc)?)?;
     commands.push(draw_command(alloc)?)?;
     commands.push(compact_command(alloc)?)?;
     commands.push(check_command(alloc)?)?;
+    commands.push(dump_command(alloc)?)?;
+    commands.push(load_command(alloc)?)?;
+    commands.push(stat_command(alloc)?)?;
     Ok(commands)
 }
 
-// What runs a script. (Five options of one command are dear to check.)
+// What runs a script. (Six options of one command are dear to check.)
 fn run_command<'a>(alloc: Global) -> Result<Command<'a>, AllocError>
     ensures local { IfOk result IsLocal }
     ensures app { IfOk result (λ command. app_of command ≡ run) }
@@ -284,7 +208,8 @@ fn run_command<'a>(alloc: Global) -> Result<Command<'a>, AllocError>
     let command = plain_run(alloc)?;
     command
         .arg(flag_option(alloc, "create").help(CREATING))?
-        .arg(flag_option(alloc, "strict").help(STRICT))
+        .arg(flag_option(alloc, "strict").help(STRICT))?
+        .arg(flag_option(alloc, "interactive").help(INTERACTIVE))
 }
 
 fn plain_run<'a>(alloc: Global) -> Result<Command<'a>, AllocError>
@@ -304,11 +229,8 @@ fn compact_command<'a>(alloc: Global) -> Result<Command<'a>, AllocError>
     ensures local { IfOk result IsLocal }
     ensures app { IfOk result (λ command. app_of command ≡ compact) }
 {
-    let store = naming(alloc, "store", "FOLDER").help("The folder of the store");
-    Command::new(alloc, "compact")
-        .about("Writes the log of a store anew, with just the records that stand")
-        .after_help(COMPACTED)
-        .arg(store)
+    let about = "Writes the log of a store anew, with just the records that stand";
+    on_store(alloc, "compact", about, COMPACTED)
 }
 
 // What looks at a store.
@@ -316,10 +238,52 @@ fn check_command<'a>(alloc: Global) -> Result<Command<'a>, AllocError>
     ensures local { IfOk result IsLocal }
     ensures app { IfOk result (λ command. app_of command ≡ check) }
 {
-    let store = naming(alloc, "store", "FOLDER").help("The folder of the store");
-    Command::new(alloc, "check")
-        .about("Says whether a store can be opened, and what its log has")
-        .after_help(CHECKED)
+    let about = "Says whether a store can be opened, and what its log has";
+    on_store(alloc, "check", about, CHECKED)
+}
+
+// What prints the rows of a store.
+fn dump_command<'a>(alloc: Global) -> Result<Command<'a>, AllocError>
+    ensures local { IfOk result IsLocal }
+    ensures app { IfOk result (λ command. app_of command ≡ dump) }
+{
+    let about = "Prints the records of a store, a line each, as load reads them";
+    on_store(alloc, "dump", about, DUMPED)
+}
+
+// What puts rows into a store.
+fn load_command<'a>(alloc: Global) -> Result<Command<'a>, AllocError>
+    ensures local { IfOk result IsLocal }
+    ensures app { IfOk result (λ command. app_of command ≡ load) }
+{
+    let about =
+        "Reads records from standard input, as dump prints them, and puts them into a store";
+    on_store(alloc, "load", about, LOADED)?.arg(flag_option(alloc, "create").help(CREATING))
+}
+
+// What measures the rows of a store.
+fn stat_command<'a>(alloc: Global) -> Result<Command<'a>, AllocError>
+    ensures local { IfOk result IsLocal }
+    ensures app { IfOk result (λ command. app_of command ≡ stat) }
+{
+    let about = "Counts the records of a store, and how long their keys and values are";
+    on_store(alloc, "stat", about, MEASURED)
+}
+
+// What does something with a store.
+fn on_store<'a>(
+    alloc: Global,
+    name: &'a str,
+    about: &'a str,
+    help: &'a str,
+) -> Result<Command<'a>, AllocError>
+    ensures local { IfOk result IsLocal }
+    ensures app { IfOk result (λ command. app_of command ≡ on_store name.entry.now) }
+{
+    let store = naming(alloc, "store", "FOLDER").help(THE_STORE);
+    Command::new(alloc, name)
+        .about(about)
+        .after_help(help)
         .arg(store)
 }
 

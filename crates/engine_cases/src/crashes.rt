@@ -7,7 +7,7 @@ use std::sync::Wait;
 use worker_pool::{Engine, Naming};
 
 /// Makes the trouble of a case. Whether each restart was done.
-pub fn trouble<J, R>(rt: &R, engine: &Engine<J, Door>, stage: &Stage, many: &Many) -> Verdict
+pub fn trouble<J, R>(rt: &R, engine: &mut Engine<J, Door>, stage: &Stage, many: &Many) -> Verdict
 where
     J: Naming + Drop + Send + Sync + 'static,
     R: Wait,
@@ -24,7 +24,7 @@ where
 }
 
 // Lets the log's device fail its next call, the second or the third, each time after so many calls more.
-fn fail_all<J, R>(rt: &R, engine: &Engine<J, Door>, stage: &Stage, clients: u64, step: u64)
+fn fail_all<J, R>(rt: &R, engine: &mut Engine<J, Door>, stage: &Stage, clients: u64, step: u64)
 where
     J: Naming + Drop + Send + Sync + 'static,
     R: Wait,
@@ -41,7 +41,7 @@ where
 // restart was done.
 fn crash_all<J, R>(
     rt: &R,
-    engine: &Engine<J, Door>,
+    engine: &mut Engine<J, Door>,
     stage: &Stage,
     clients: u64,
     step: u64,
@@ -62,7 +62,7 @@ where
 
 /// Brings the components up, and answers how often that was refused memory. Where it always is the transaction component
 /// crashes, so that no call waits for them.
-pub fn bring_up<J, R>(rt: &R, engine: &Engine<J, Door>) -> Result<u64, Refusal>
+pub fn bring_up<J, R>(rt: &R, engine: &mut Engine<J, Door>) -> Result<u64, Refusal>
 where
     J: Naming + Drop + Send + Sync + 'static,
     R: Wait,
@@ -79,7 +79,7 @@ where
 }
 
 // Clients wait from before a crash until all is up again, if they are refused.
-fn fall<J, R>(rt: &R, engine: &Engine<J, Door>, stage: &Stage, crash: Crash) -> Verdict
+fn fall<J, R>(rt: &R, engine: &mut Engine<J, Door>, stage: &Stage, crash: Crash) -> Verdict
 where
     J: Naming + Drop + Send + Sync + 'static,
     R: Wait,

@@ -12,7 +12,7 @@ use worker_pool::{Engine, Naming};
 pub fn follow_all<J, S, R>(
     rt: &R,
     alloc: Global,
-    engine: &Engine<J, Door>,
+    engine: &mut Engine<J, Door>,
     clients: &mut Vec<Client<S>>,
     lines: &str,
 ) -> Verdict
@@ -34,7 +34,7 @@ where
 fn happens<J, S, R>(
     rt: &R,
     alloc: Global,
-    engine: &Engine<J, Door>,
+    engine: &mut Engine<J, Door>,
     clients: &mut Vec<Client<S>>,
     line: &str,
     text: &mut String,
@@ -86,7 +86,7 @@ fn place_of<S: Serves + Drop>(clients: &Vec<Client<S>>, number: &str) -> Option<
 }
 
 // One component crashes.
-fn crash<J, R>(rt: &R, engine: &Engine<J, Door>, words: &mut Words<'_>) -> Result<(), Refusal>
+fn crash<J, R>(rt: &R, engine: &mut Engine<J, Door>, words: &mut Words<'_>) -> Result<(), Refusal>
 where
     J: Naming + Drop + Send + Sync + 'static,
     R: Wait,
@@ -100,7 +100,7 @@ where
 }
 
 // A call of the log's device is to fail.
-fn fail<J, R>(rt: &R, engine: &Engine<J, Door>, words: &mut Words<'_>) -> Result<(), Refusal>
+fn fail<J, R>(rt: &R, engine: &mut Engine<J, Door>, words: &mut Words<'_>) -> Result<(), Refusal>
 where
     J: Naming + Drop + Send + Sync + 'static,
     R: Wait,
@@ -111,7 +111,7 @@ where
 
 // Brings the components up, and appends whether they are. Refused NoMemory where that was: records have other numbers
 // than the lines say once it is tried again.
-fn put_restart<J, R>(rt: &R, engine: &Engine<J, Door>, text: &mut String) -> Result<(), Refusal>
+fn put_restart<J, R>(rt: &R, engine: &mut Engine<J, Door>, text: &mut String) -> Result<(), Refusal>
 where
     J: Naming + Drop + Send + Sync + 'static,
     R: Wait,

@@ -8,7 +8,7 @@ use Rattle.jakumshe.specs.declared.fault.Fault.TheVariants.{Refused}
 use Rattle.jakumshe.specs.Logs.{IsMadeOn, IsBroughtUp, IsOpenedOn, NotOpened, stable_bytes}
 
 pub no_memory : (bytes : List ℕ) (r : Refusal) → r ≡ NoMemory → NotOpened bytes (Refused r)
-no_memory bytes r is = inl (why.Refused r, inr (inl is), refl)
+no_memory bytes r is = inl (why.Refused r, (inr (inl is), λ e. absurd (cc)), refl)
 
 pub opened : (bytes held : List ℕ) (kept : ℕ) (made new : NodeView) → IsMadeOn held made → held ≡ bytes
     → kept ≡ length (stable_bytes made) → IsBroughtUp made (Ok tt) new → IsOpenedOn bytes kept new

@@ -81,7 +81,7 @@ pub extern "C" fn jakumshe_raw_begin(handle: &mut Handle, alloc: Global, txn: &m
     }
 }
 
-/// PutsResult a record where there is none. Refused EmptyKey, TooLong, NotOpen, Busy, Exists.
+/// Puts a record where there is none. Refused EmptyKey, TooLong, NotOpen, Busy, Exists.
 #[unsafe(no_mangle)]
 pub extern "C" fn jakumshe_raw_insert(
     handle: &mut Handle,
@@ -119,7 +119,7 @@ pub extern "C" fn jakumshe_raw_update(
     perform(handle, alloc, txn, ops::update(key, value))
 }
 
-/// PutsResult the record, whether there is one or not. Refused EmptyKey, TooLong, NotOpen, Busy.
+/// Puts the record, whether there is one or not. Refused EmptyKey, TooLong, NotOpen, Busy.
 #[unsafe(no_mangle)]
 pub extern "C" fn jakumshe_raw_upsert(
     handle: &mut Handle,

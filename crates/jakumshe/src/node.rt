@@ -5,10 +5,10 @@ ghost use Rattle.node_laws.specs.declared.event.Event.TheVariants as event;
 ghost use Rattle.node_laws.specs.Rounds.{IsDone};
 ghost use Rattle.jakumshe.specs.declared.fault.Fault.TheVariants.{Refused};
 ghost use Rattle.jakumshe.specs.Calls.{ComesToRest, StopsSettling, IsStepped, IsTold, IsNew, NotNew, RefusesEvent, Fails, Makes, Tells, Operates, Reads, begins, saves, finds, goes_back, rolls_back, commits, end_of};
-ghost use Rattle.jakumshe.specs.Logs.{IsMadeOn, IsOpenedOn, IsBroughtUp, NotOpened, Copies, stable_bytes};
+ghost use Rattle.jakumshe.specs.Logs.{IsMadeOn, IsOpenedOn, IsBroughtUp, IsUnfitFor, NotOpened, Copies, stable_bytes, written_once};
+ghost use Rattle.jakumshe.specs.Parts.{ReadsBack};
 ghost use Rattle.jakumshe.specs.Records.{IsPageOfRows};
 ghost use Rattle.jakumshe.specs.Renewal.{IsRenewalOf, IsRenewed, NotRenewed};
-ghost use Rattle.node_store.specs.Opening.{IsRefusedFor};
 ghost use Rattle.node_store.specs.Renewal.{RefusesRenewal};
 
 use crate::fault::{Fault, fault_of, renewal_fault};
@@ -199,6 +199,19 @@ impl Node {
         }
     }
 
+    /// The same, but the last row is the next one.
+    pub fn read_back(&mut self, txn: u64, low: Key, high: Option<Key>) -> Result<usize, Fault>
+        ensures { ReadsBack self.old.world txn low high self.old.rows.items self.new.rows.items result self.new.world }
+    {
+        match self.read(txn, low, high) {
+            Ok(found) => {
+                self.rows.reverse();
+                Ok(found)
+            }
+            Err(fault) => Err(fault),
+        }
+    }
+
     /// Puts the next rows of those that were read last, as many as there is room for. Gives how many.
     pub fn page(&mut self, room: &mut [RowBytes]) -> usize
         ensures world { self.new.world ≡ self.old.world }
@@ -319,6 +332,7 @@ impl Node {
 fn device_of(alloc: Global, log: &[u8]) -> Result<MemLog, Refusal>
     ensures forced { IfOk result (λ device. device.forced ≡ log.now) }
     ensures pending { IfOk result (λ device. device.pending ≡ []) }
+    ensures usage { IfOk result (λ device. device.usage ≡ written_once) }
     ensures memory { IfErr result (λ refusal. refusal ≡ Refusal.NoMemory) }
 {
     let mut device = MemLog::new(alloc);
@@ -335,9 +349,10 @@ fn device_of(alloc: Global, log: &[u8]) -> Result<MemLog, Refusal>
 
 /// A node on the device's log, as it is opened.
 fn node_on(alloc: Global, log: MemLog) -> Result<Node, Cause>
-    requires { log.pending ≡ [] }
+    requires all_forced { log.pending ≡ [] }
+    requires usage { log.usage ≡ written_once }
     ensures made { IfOk result (λ node. IsMadeOn log.forced node.world) }
-    ensures refused { IfErr result (IsRefusedFor log.forced) }
+    ensures refused { IfErr result (IsUnfitFor log.forced) }
 {
     match open(alloc, log, MemLog::new(alloc), MemPages::new(alloc)) {
         Ok(world) => Ok(Node {

@@ -7,7 +7,7 @@ use Rattle.atomic_table.specs.Table.{step, keeps, Allows, Enters, Splits, Joins}
 use Rattle.atomic_table.proofs.Lists.{at_set, at_snoc, set_again}
 use Rattle.marks.specs.declared.rule.Pair.{Pair}
 use Rattle.marks.specs.declared.rule.View.{View}
-use Rattle.marks.specs.Rule.{Marked, Mine, pair, words_of, UpTo, FitsSeat, Holds, raiser_at_first, newcomer, sees, told, meeting, low_read, stable_read, stable_raised, low_raised, came, compared}
+use Rattle.marks.specs.Rule.{Marked, Mine, pair, words_of, UpTo, FitsSeat, Holds, raiser_at_first, newcomer, sees, has_read, told, meeting, low_read, stable_read, stable_raised, low_raised, came, compared}
 
 abbrev pair_of : List ℕ → Pair
 pair_of words = pair (get_or words 0 0) (get_or words 1 0)
@@ -117,10 +117,10 @@ reads_stable slots number me s h _ at _ = let v = me.0 in let n : ℕ = get_or s
     stable_set s.words n h.two_words in let was = h.each_fits number v at in
     let low_is = λ (r : IsTrue v.raises). ap (λ (p : Pair). p.low) (was.raiser_exact r) in
     let stable_is = λ (r : IsTrue v.raises). ap (λ (p : Pair). p.stable) (was.raiser_exact r) in (
-      sees v (pair n v.seen.low),
+      has_read v (pair n v.seen.low),
       keeps,
       tt,
-      knows s (set s.words 0 n) number (sees v (pair n v.seen.low)) h is.0 is.1 record {
+      knows s (set s.words 0 n) number (has_read v (pair n v.seen.low)) h is.0 is.1 record {
         reached = (le_refl n, was.reached.1);
         met_reached = (le_trans was.met_reached.0 was.reached.0, was.met_reached.1);
         raiser_first = was.raiser_first;

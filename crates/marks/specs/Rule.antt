@@ -1,5 +1,5 @@
 -- The rule that every step on the two words keeps, and what each step tells. Word 0 is stable, word 1 is low.
-use Rattle.std.specs.Prelude.{◌≡◌, ℕ, ◌≤◌, Bool, true, false, IsTrue, length, slice_index, max}
+use Rattle.std.specs.Prelude.{◌≡◌, ℕ, ◌+◌, ◌≤◌, Bool, true, false, IsTrue, length, slice_index, max}
 use mathlib.Core.Option.{some}
 use lib.ListN.{get_elem?}
 use Rattle.atomic_table.specs.Table.{State, Me, Step}
@@ -35,18 +35,22 @@ pub record Holds (s : Marked) : Type 0 where
   pub ordered : (words_of s).low ≤ (words_of s).stable
   pub each_fits : (number : ℕ) (v : View) → get_elem? s.views number ≡ some v → FitsSeat (words_of s) number v
 
-abbrev pub view : Bool → Pair → Pair → View
-view raises seen met = record { raises = raises; seen = seen; met = met }
+abbrev pub view : Bool → Pair → Pair → ℕ → View
+view raises seen met readings = record { raises = raises; seen = seen; met = met; readings = readings }
 
 abbrev pub raiser_at_first : View
-raiser_at_first = view true (pair 0 0) (pair 0 0)
+raiser_at_first = view true (pair 0 0) (pair 0 0) 0
 
 abbrev pub newcomer : View
-newcomer = view false (pair 0 0) (pair 0 0)
+newcomer = view false (pair 0 0) (pair 0 0) 0
 
 -- a view with this pair seen in place of its own
 abbrev pub sees : View → Pair → View
-sees v seen = view v.raises seen v.met
+sees v seen = view v.raises seen v.met v.readings
+
+-- the same once both words were read
+abbrev pub has_read : View → Pair → View
+has_read v seen = view v.raises seen v.met (v.readings + 1)
 
 -- low was found to be n: at least what was seen, and just that by a raiser. Stable is no less.
 abbrev pub low_read : Step (Unit {0}) → Mine → ℕ → Mine → Type 0
@@ -55,11 +59,12 @@ low_read st m n m' =
     × (IsTrue m.0.raises → (n ≡ m.0.seen.low) × (n ≤ m.0.seen.stable))
     × (m' ≡ (sees m.0 (pair (max m.0.seen.stable n) n), m.1))
 
+-- stable is read after low
 abbrev pub stable_read : Step (Unit {0}) → Mine → ℕ → Mine → Type 0
 stable_read st m n m' =
     (m.0.seen.stable ≤ n)
     × (IsTrue m.0.raises → n ≡ m.0.seen.stable)
-    × (m' ≡ (sees m.0 (pair n m.0.seen.low), m.1))
+    × (m' ≡ (has_read m.0 (pair n m.0.seen.low), m.1))
 
 abbrev pub stable_raised : Step (Unit {0}) → Mine → ℕ → Mine → Type 0
 stable_raised st m n m' = m' ≡ (sees m.0 (pair (max m.0.seen.stable st.first) m.0.seen.low), m.1)
@@ -74,10 +79,10 @@ came st m n m' = m'.0 ≡ newcomer
 abbrev pub compared : Step (Unit {0}) → Mine → ℕ → Mine → Type 0
 compared st m n m' = UpTo m.0.met m.0.seen × (m' ≡ m)
 
--- a reader that has seen what the seat has
+-- a reader that has seen what the seat has, and was read by no more
 abbrev pub told : View → View
-told v = view false v.seen (pair 0 0)
+told v = view false v.seen (pair 0 0) 0
 
 -- the seat when it has met another
 abbrev pub meeting : View → View → View
-meeting v w = view v.raises v.seen w.seen
+meeting v w = view v.raises v.seen w.seen v.readings

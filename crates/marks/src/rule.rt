@@ -7,12 +7,13 @@ pub(crate) struct Pair {
     pub(crate) low: u64,
 }
 
-/// What a seat knows: whether it raises, the greatest pair that it has seen, and the pair that the seat which it met
-/// last had seen. It is for the proofs alone: no value of it is made.
+/// What a seat knows: whether it raises, the greatest pair that it has seen, the pair that the seat which it met last
+/// had seen, and how often both words were read by it. It is for the proofs alone: no value of it is made.
 pub(crate) struct View {
     pub(crate) raises: bool,
     pub(crate) seen: Pair,
     pub(crate) met: Pair,
+    pub(crate) readings: u64,
 }
 
 /// No word is below what a seat has seen, the raiser has seen just the words, and low is at most stable.

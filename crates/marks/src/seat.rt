@@ -2,8 +2,8 @@
 use crate::rule::View;
 use std::marker::Model;
 
-/// A token of no bytes, made by `Marks::new`. A clause sees which marks it belongs to, whether it may raise them, and
-/// the greatest pair that it has seen.
+/// A token of no bytes, made by `Marks::new`. A clause sees which marks it belongs to, whether it may raise them, the
+/// greatest pair that it has seen, and how often the marks were read by it.
 #[derive(Drop)]
 pub struct Seat {
     pub(crate) place: atomic_table::Seat<(), View>,
@@ -20,6 +20,7 @@ impl Model for Seat {
       raises = s.place.me.0.raises;
       stable = s.place.me.0.seen.stable;
       low = s.place.me.0.seen.low;
+      readings = s.place.me.0.readings;
     } };
 
     ghost invariant = { λ s. s.place.me.1 ≡ [] };

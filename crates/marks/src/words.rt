@@ -2,7 +2,7 @@
 ghost use Rattle.std.specs.Prelude.{◌≡◌, ◌≤◌, length, max, All, IfOk, IsTrue};
 ghost use Rattle.marks.specs.Bytes.{bytes_of};
 ghost use Rattle.marks.specs.contracts.seat.Seat.{the_row};
-ghost use Rattle.marks.specs.Seen.{raiser, reader, seeing, SeenBy};
+ghost use Rattle.marks.specs.Seen.{having_read, raiser, reader, seeing, SeenBy};
 
 use crate::rule::{Come, Meet, RaiseLow, RaiseStable, ReadLow, ReadStable, Rising, Tell, View};
 use crate::seat::Seat;
@@ -67,7 +67,8 @@ impl<A: Allocator> Marks<A> {
         requires { seat.old.marks ≡ self.now }
         ensures ordered { result.1 ≤ result.0 }
         ensures never_falls { (seat.old.stable ≤ result.0) × (seat.old.low ≤ result.1) }
-        ensures seen { seat.new ≡ seeing seat.old result.0 result.1 }
+        // the count of readings moves on in no other way, so the answer is what this call has read
+        ensures seen { seat.new ≡ having_read seat.old result.0 result.1 }
         // so there is nothing in a seat to answer from, or to tell whose it is: what the raiser's finds, each seat
         // finds
         ensures seat_has_no_bytes { bytes_of the_row ≡ 0 }
@@ -92,7 +93,7 @@ impl<A: Allocator> Marks<A> {
     fn find_stable(&self, seat: &mut Seat) -> u64
         requires { seat.old.marks ≡ self.now }
         ensures never_falls { seat.old.stable ≤ result }
-        ensures seen { seat.new ≡ seeing seat.old result seat.old.low }
+        ensures seen { seat.new ≡ having_read seat.old result seat.old.low }
         ensures raiser_finds_its_own { IsTrue seat.old.raises → result ≡ seat.old.stable }
     {
         self.table

@@ -24,6 +24,7 @@ use Rattle.simulation.specs.View.{IsCommitAt, standing}
 use Rattle.node_laws.specs.Node.{NodeView}
 use Rattle.node_laws.specs.Source.{IsWaiting}
 use Rattle.node_laws.specs.Simulation.{NodeStandsFor, IsSettled}
+use Rattle.node_laws.specs.Kept.{IsKept}
 
 -- the leaf is honest for the log once what stands above the end that the next Connect would carry is taken back
 abbrev pub IsHonestBack : List Record → LeafView → Type 0
@@ -63,10 +64,19 @@ pub record IsPlain (w : NodeView) (m : Machine) : Type 0 where
   pub rows : rows_of (leaves w.dc) ≡ plain m.h
   pub history : standing m.h ≡ standing (hist w.tc.log)
 
--- for each list machine that the node stands for
+-- a settled node holds what a plain map holds after the operations that stand in its own log
+abbrev pub IsPlainByLog : NodeView → Type 0
+IsPlainByLog w = rows_of (leaves w.dc) ≡ plain (hist w.tc.log)
+
+-- of the node alone, and for each list machine that it stands for
 pub record Promises (w : NodeView) : Type 0 where
   pub honest : AreHonest w
   pub once : IsCompensatedOnce w.tc.log
   pub unrefused : IsNoneRefused w.tc.log
+  pub by_log : IsSettled w → IsPlainByLog w
   pub commits : (m : Machine) → NodeStandsFor w m → CommitsStand w m
   pub settled : (m : Machine) → NodeStandsFor w m → IsSettled w → IsPlain w m
+
+-- whatever keeps its own at a moment promises this then
+abbrev pub KeptPromises : Type 0
+KeptPromises = (w : NodeView) → IsKept w → Promises w

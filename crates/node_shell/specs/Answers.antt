@@ -4,16 +4,16 @@ use Rattle.std.specs.List.{concat}
 use Rattle.record_key.specs.declared.op.Answer.{Answer}
 use Rattle.record_key.specs.declared.op.Answer.TheVariants as answer
 use Rattle.record_key.specs.Rows.{Row}
-use Rattle.node_shell.specs.Printed.{value_if, valued, numbered}
+use Rattle.node_shell.specs.Printed.{shown_if, worded, numbered}
 use Rattle.node_shell.specs.Stored.{row_line}
 
 -- an answer, and the end of its line
 abbrev pub answer_text : Answer → List ℕ
 answer_text answer.Inserted = codes "inserted\n"
-answer_text (answer.Updated old) = valued (codes "updated ") old
-answer_text (answer.Was (Some old)) = valued (codes "was ") old
+answer_text (answer.Updated old) = worded (codes "updated ") old
+answer_text (answer.Was (Some old)) = worded (codes "was ") old
 answer_text (answer.Was None) = codes "was -\n"
-answer_text (answer.Deleted old) = valued (codes "deleted ") old
+answer_text (answer.Deleted old) = worded (codes "deleted ") old
 answer_text answer.Exists = codes "exists\n"
 answer_text answer.NoRecord = codes "missing\n"
 answer_text answer.NotNumber = codes "notnumber\n"
@@ -25,7 +25,7 @@ answered_line number answer = concat (codes "answer " ∷ decimal number ∷ cod
 
 -- the value that a transaction asked for, a dash where there is no record
 abbrev pub value_line : ℕ → Option (List ℕ) → List ℕ
-value_line txn value = concat (codes "row " ∷ decimal txn ∷ codes " " ∷ value_if value ∷ codes "\n" ∷ [])
+value_line txn value = concat (codes "row " ∷ decimal txn ∷ codes " " ∷ shown_if value ∷ codes "\n" ∷ [])
 
 -- the rows that a transaction asked for, and first how many they are
 abbrev pub found_text : ℕ → List Row → List ℕ

@@ -6,12 +6,12 @@ use Rattle.record_key.specs.declared.op.Op.TheVariants as op
 use Rattle.history.specs.declared.record.Record.{Record}
 use Rattle.history.specs.declared.record.Record.TheVariants as record-is
 use Rattle.history.specs.Log.{record_at}
-use Rattle.node_shell.specs.Printed.{shown, shown_value, worded, numbered}
+use Rattle.node_shell.specs.Printed.{shown, worded, numbered}
 use Rattle.node_shell.specs.Answers.{answered_line}
 
 -- a write of a value, and the end of its line
 abbrev pub write_text : List ℕ → List ℕ → List ℕ → List ℕ
-write_text name key value = concat (name ∷ shown key ∷ codes " " ∷ shown_value value ∷ codes "\n" ∷ [])
+write_text name key value = concat (name ∷ shown key ∷ codes " " ∷ shown value ∷ codes "\n" ∷ [])
 
 -- an increment, and the end of its line
 abbrev pub add_text : List ℕ → ℕ → List ℕ

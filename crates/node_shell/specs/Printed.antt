@@ -10,47 +10,33 @@ use Rattle.record_key.specs.Refusals.{number_of, name_of}
 use Rattle.node_shell.specs.declared.pieces.Piece.{Piece}
 use Rattle.node_shell.specs.declared.pieces.Piece.TheVariants as piece
 
--- a key: a dot where it is empty
-abbrev pub shown : List ℕ → List ℕ
-shown [] = codes "."
-shown (b ∷ bs) = b ∷ bs
-
 -- a number sign and two hexadecimal digits for each byte
 abbrev pub digits_text : List ℕ → List ℕ
 digits_text bytes = codes "#" ++ encode_lower bytes
 
--- a value: letters and digits for themselves, a dot where it is empty, else the digits of its bytes
-abbrev pub shown_value : List ℕ → List ℕ
-shown_value [] = codes "."
-shown_value (b ∷ bs) = if list_all is_ascii_alphanumeric (b ∷ bs) then b ∷ bs else digits_text (b ∷ bs)
+-- a key or a value: letters and digits for themselves, a dot where it is empty, else the digits of its bytes
+abbrev pub shown : List ℕ → List ℕ
+shown [] = codes "."
+shown (b ∷ bs) = if list_all is_ascii_alphanumeric (b ∷ bs) then b ∷ bs else digits_text (b ∷ bs)
 
--- a value, or a dash where there is none
-abbrev pub value_if : Option (List ℕ) → List ℕ
-value_if None = codes "-"
-value_if (Some value) = shown_value value
-
--- a key, or a dash where there is none
+-- a key or a value, or a dash where there is none
 abbrev pub shown_if : Option (List ℕ) → List ℕ
 shown_if None = codes "-"
-shown_if (Some word) = shown word
+shown_if (Some bytes) = shown bytes
 
 abbrev pub piece_text : Piece → List ℕ
 piece_text (piece.Text text) = text.now
-piece_text (piece.Word word) = shown word.now
-piece_text (piece.Value value) = shown_value value.now
+piece_text (piece.Key key) = shown key.now
+piece_text (piece.Value value) = shown value.now
 piece_text (piece.Number number) = decimal number
 
 -- a text and a number
 abbrev pub numbered : List ℕ → ℕ → List ℕ
 numbered text number = concat (text ∷ decimal number ∷ codes "\n" ∷ [])
 
--- a text and a key
+-- a text, and a key or a value
 abbrev pub worded : List ℕ → List ℕ → List ℕ
-worded text word = concat (text ∷ shown word ∷ codes "\n" ∷ [])
-
--- a text and a value
-abbrev pub valued : List ℕ → List ℕ → List ℕ
-valued text value = concat (text ∷ shown_value value ∷ codes "\n" ∷ [])
+worded text bytes = concat (text ∷ shown bytes ∷ codes "\n" ∷ [])
 
 -- the number behind a refusal's name, where it has one
 abbrev pub number_behind : Refusal → Option ℕ

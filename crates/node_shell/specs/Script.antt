@@ -20,7 +20,7 @@ use Rattle.node_shell.specs.declared.line.Written.{Written}
 use Rattle.node_shell.specs.declared.line.Written.TheVariants as written
 use Rattle.node_shell.specs.declared.line.Line.{Line}
 use Rattle.node_shell.specs.declared.line.Line.TheVariants as line
-use Rattle.node_shell.specs.Words.{words_of, label_in, text_in, value_written, end_in, number_in, amount_written}
+use Rattle.node_shell.specs.Words.{words_of, label_in, written_in, end_in, number_in, amount_written}
 
 -- what stands between the ends of lines, which are byte 10. A last end leaves an empty line, which is skipped
 abbrev pub lines_from : List ℕ → List (List ℕ)
@@ -200,22 +200,22 @@ crash_in (Some c) (Some frames) (Some bytes) = Some (steps (crash_of c frames by
 abbrev pub unlabelled : List ℕ → List ℕ → Option Command
 unlabelled name word =
     first_command (with_number name (number_in word))
-    (first_command (treating_leaf name (text_in word)) (with_component name (component_in word)))
+    (first_command (treating_leaf name (written_in word)) (with_component name (component_in word)))
 
 -- a line of three words
 abbrev pub of_three : List ℕ → List ℕ → List ℕ → Option Command
 of_three name first second =
-    first_command (with_key name (label_in first) (text_in second))
+    first_command (with_key name (label_in first) (written_in second))
     (first_command (with_savepoint name (label_in first) (number_in second))
     (with_device name (device_in first) (number_in second)))
 
 -- a line of four words
 abbrev pub of_four : List ℕ → List ℕ → List ℕ → List ℕ → Option Command
 of_four name first second last =
-    if bytes_eq name (codes "scan") then scan_of (label_in first) (text_in second) (end_in last)
+    if bytes_eq name (codes "scan") then scan_of (label_in first) (written_in second) (end_in last)
     else (if bytes_eq name (codes "crash") then crash_in (component_in first) (number_in second) (number_in last)
-    else (if bytes_eq name (codes "add") then add_of (label_in first) (text_in second) (amount_written last)
-    else write_of (kind_with_value name) (label_in first) (text_in second) (value_written last)))
+    else (if bytes_eq name (codes "add") then add_of (label_in first) (written_in second) (amount_written last)
+    else write_of (kind_with_value name) (label_in first) (written_in second) (written_in last)))
 
 -- the grammar: one case for each number of words
 abbrev pub command_of : List (List ℕ) → Option Command
@@ -254,7 +254,7 @@ abbrev pub commands_of : List (List ℕ) → List Command
 commands_of [] = []
 commands_of (bytes ∷ rest) = onto (asked_by bytes) (commands_of rest)
 
--- the bytes of a value as a line gives it
+-- the bytes of a key or a value as a line gives it
 abbrev pub written_bytes : Written → List ℕ
 written_bytes (written.Text text) = text.now
 written_bytes (written.Bytes value) = value
@@ -262,12 +262,12 @@ written_bytes (written.Bytes value) = value
 -- what a line that was read asks for
 abbrev pub meaning : Line → Command
 meaning (line.Begin label) = begins label
-meaning (line.Write label k key value) = writes label k key.now (written_bytes value)
-meaning (line.Add label key amount) = adds label key.now amount
-meaning (line.Get label key) = gets label key.now
-meaning (line.Scan label low high) = scans label low.now (option_map (λ text. text.now) high)
+meaning (line.Write label k key value) = writes label k (written_bytes key) (written_bytes value)
+meaning (line.Add label key amount) = adds label (written_bytes key) amount
+meaning (line.Get label key) = gets label (written_bytes key)
+meaning (line.Scan label low high) = scans label (written_bytes low) (option_map written_bytes high)
 meaning (line.Call label c) = calls label c
-meaning (line.Leaf c key) = treats c key.now
+meaning (line.Leaf c key) = treats c (written_bytes key)
 meaning (line.Step e) = steps e
 meaning (line.Settle most) = settles most
 meaning line.Table = tables

@@ -5,10 +5,10 @@ use Rattle.std.specs.FinMap.{entries}
 use Rattle.record_key.specs.Rows.{Row}
 use Rattle.record_key.specs.declared.entry.Entry.{Entry}
 use Rattle.page.specs.Leaf.{LeafView}
-use Rattle.node_shell.specs.Printed.{shown, shown_if, shown_value, numbered}
+use Rattle.node_shell.specs.Printed.{shown, shown_if, numbered}
 
 abbrev pub row_line : Row → List ℕ
-row_line row = concat (shown row.0 ∷ codes "=" ∷ shown_value row.1 ∷ codes "\n" ∷ [])
+row_line row = concat (shown row.0 ∷ codes "=" ∷ shown row.1 ∷ codes "\n" ∷ [])
 
 abbrev pub table_text : List Row → List ℕ
 table_text rows = flat_map row_line rows ++ numbered (codes "rows ") (length rows)

@@ -1,4 +1,4 @@
--- The words of a line: labels, numbers, texts and values.
+-- The words of a line: labels, numbers, keys and values.
 use Rattle.std.specs.Prelude.{ℕ, ◌+◌, ◌-◌, ◌*◌, ◌^◌, ◌==◌, ◌||◌, ◌&&◌, Bool, not, List, [], ◌∷◌, Option, Some, None, Result, Ok, Err, length, codes, decimal, bytes_eq, option_map, nat_le, nat_lt, if◌then◌else◌}
 use Rattle.std.specs.List.{slice_split, list_all, list_any}
 use Rattle.std.specs.Char.{is_ascii_alphanumeric, is_ascii_lowercase, is_ascii_uppercase, is_ascii_digit}
@@ -36,14 +36,14 @@ bytes_in digits =
     if length digits == 0 || nat_lt 240 (length digits) || list_any is_ascii_uppercase digits then None
     else decoded (decode_of digits)
 
--- a value: a text, or a number sign and the digits of its bytes
-abbrev pub value_written : List ℕ → Option (List ℕ)
-value_written [] = None
-value_written (b ∷ bs) = if b == 35 then bytes_in bs else text_in (b ∷ bs)
+-- a key or a value: a text, or a number sign and the digits of its bytes
+abbrev pub written_in : List ℕ → Option (List ℕ)
+written_in [] = None
+written_in (b ∷ bs) = if b == 35 then bytes_in bs else text_in (b ∷ bs)
 
 -- an upper end: a star for none
 abbrev pub end_in : List ℕ → Option (Option (List ℕ))
-end_in word = if bytes_eq word (codes "*") then Some None else option_map Some (text_in word)
+end_in word = if bytes_eq word (codes "*") then Some None else option_map Some (written_in word)
 
 -- the number that these digits write behind those of n
 abbrev pub value_behind : ℕ → List ℕ → ℕ

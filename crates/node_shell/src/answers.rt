@@ -1,6 +1,6 @@
 //! The text of answers, values and rows that a transaction asked for.
 ghost use Rattle.std.specs.Prelude.{◌≡◌};
-ghost use Rattle.node_shell.specs.Printed.{Prints, piece_text, value_if};
+ghost use Rattle.node_shell.specs.Printed.{Prints, piece_text, shown_if};
 ghost use Rattle.node_shell.specs.Answers.{answer_text, answered_line, value_line, found_text};
 
 use crate::pieces::{Piece, print};
@@ -60,7 +60,7 @@ pub fn print_value<W: io::Write>(writer: &mut W, txn: u64, value: &Option<Value>
 
 /// A value, or a dash where there is no record.
 pub fn value_piece(value: &Option<Value>) -> Piece<'_>
-    ensures { piece_text result ≡ value_if value.now }
+    ensures { piece_text result ≡ shown_if value.now }
 {
     match value {
         Some(value) => Piece::Value(value),

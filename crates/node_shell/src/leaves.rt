@@ -39,7 +39,7 @@ fn fence(key: Option<&Key>) -> Piece<'_>
     ensures { piece_text result ≡ shown_if (option_copied key.entry) }
 {
     match key {
-        Some(key) => Piece::Word(key.as_bytes()),
+        Some(key) => Piece::Key(key),
         None => Piece::Text("-"),
     }
 }

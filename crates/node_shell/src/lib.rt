@@ -38,12 +38,13 @@ pub use line_result::LineResult;
 pub use logged::print_record;
 pub use pieces::{Piece, print, put};
 pub use printed::print_refusal;
-pub use rows::print_table;
-pub use script::{first_fault, request};
-pub use script_run::{DONE, FAILED, FAULT, refusal_of, refuse, run, run_on};
+pub use rows::{print_row, print_table};
+pub use script::{cut_at, first_fault, is_fault, request};
+pub use script_run::{DONE, FAILED, FAULT, refusal_of, refuse, run, run_line, run_on};
 pub use shell::Shell;
 pub use stopping::Stopping;
 pub use told::print_told;
+pub use words::{number_of, written};
 
 // What a crate above names of those below.
 pub use world;

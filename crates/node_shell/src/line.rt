@@ -61,7 +61,7 @@ pub enum Part {
     Leaves,
 }
 
-/// A value as a line gives it.
+/// A key or a value as a line gives it.
 #[derive(Drop)]
 pub enum Written<'a> {
     /// The script's own bytes, of any length.
@@ -74,7 +74,7 @@ impl Written<'_> {
     ghost use Rattle.std.specs.Prelude.{◌≡◌};
     ghost use Rattle.node_shell.specs.Script.{written_bytes};
 
-    /// The bytes that the value has.
+    /// The bytes that it has.
     pub fn as_bytes(&self) -> &[u8]
         ensures { result.now ≡ written_bytes self.now }
     {
@@ -85,31 +85,31 @@ impl Written<'_> {
     }
 }
 
-/// A line that is run. Its keys are the script's own bytes, of any length.
+/// A line that is run. Its keys have any length.
 #[derive(Drop)]
 pub enum Line<'a> {
     Begin(Label),
     Write {
         label: Label,
         kind: Kind,
-        key: &'a [u8],
+        key: Written<'a>,
         value: Written<'a>,
     },
     /// An amount is added to the number at a key.
     Add {
         label: Label,
-        key: &'a [u8],
+        key: Written<'a>,
         amount: u64,
     },
     Get {
         label: Label,
-        key: &'a [u8],
+        key: Written<'a>,
     },
     /// The keys from `low` on, below `high` where there is one.
     Scan {
         label: Label,
-        low: &'a [u8],
-        high: Option<&'a [u8]>,
+        low: Written<'a>,
+        high: Option<Written<'a>>,
     },
     Call {
         label: Label,
@@ -117,7 +117,7 @@ pub enum Line<'a> {
     },
     Leaf {
         call: LeafCall,
-        key: &'a [u8],
+        key: Written<'a>,
     },
     Step(Event),
     /// The node works, for so many rounds at most where there is a number.

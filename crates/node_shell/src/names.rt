@@ -1,11 +1,11 @@
 //! The names that begin lines, by what follows them.
 ghost use Rattle.std.specs.Prelude.{◌≡◌, option_map};
-ghost use Rattle.node_shell.specs.Words.{label_in, number_in, text_in};
+ghost use Rattle.node_shell.specs.Words.{label_in, number_in, written_in};
 ghost use Rattle.node_shell.specs.Script.{bare, with_label, call_named, with_number, treating_leaf, leaf_call_named, with_key, with_savepoint, kind_with_value, meaning};
 
 use crate::label::Label;
 use crate::line::{Call, Kind, LeafCall, Line, Part, Written};
-use crate::words::{number_of, text_of};
+use crate::words::{number_of, written};
 use world::Event;
 
 /// A line of one word.
@@ -90,9 +90,9 @@ pub fn with_number<'a>(name: &[u8], word: &[u8]) -> Option<Line<'a>>
 
 /// A line of a name and the key of a leaf.
 pub fn treating_leaf<'a>(name: &[u8], word: &'a [u8]) -> Option<Line<'a>>
-    ensures { option_map meaning result ≡ treating_leaf name.now (text_in word.now) }
+    ensures { option_map meaning result ≡ treating_leaf name.now (written_in word.now) }
 {
-    let key = text_of(word)?;
+    let key = written(word)?;
     let call = leaf_call_named(name)?;
     Some(Line::Leaf { call, key })
 }
@@ -113,11 +113,11 @@ fn leaf_call_named(name: &[u8]) -> Option<LeafCall>
 }
 
 /// A line of a name, a label and a key.
-pub fn with_key<'a>(name: &[u8], label: &[u8], key: &'a [u8]) -> Option<Line<'a>>
-    ensures { option_map meaning result ≡ with_key name.now (label_in label.now) (text_in key.now) }
+pub fn with_key<'a>(name: &[u8], label: &[u8], word: &'a [u8]) -> Option<Line<'a>>
+    ensures { option_map meaning result ≡ with_key name.now (label_in label.now) (written_in word.now) }
 {
     let label = Label::new(label)?;
-    let key = text_of(key)?;
+    let key = written(word)?;
     if name == b"get".as_slice() {
         Some(Line::Get { label, key })
     } else if name == b"delete".as_slice() {
@@ -125,7 +125,7 @@ pub fn with_key<'a>(name: &[u8], label: &[u8], key: &'a [u8]) -> Option<Line<'a>
             label,
             kind: Kind::Delete,
             key,
-            value: Written::Text(&key[..0]),
+            value: Written::Text(&word[..0]),
         })
     } else {
         None

@@ -3,7 +3,7 @@ ghost use Rattle.node_shell.specs.Printed.{Prints};
 ghost use Rattle.node_shell.specs.Logged.{op_text, write_text, add_text, inverse_text};
 
 use crate::pieces::{Piece, print};
-use crate::printed::print_worded;
+use crate::printed::print_keyed;
 use record_key::{Key, Op, Value};
 use std::io;
 
@@ -15,7 +15,7 @@ pub fn print_op<W: io::Write>(writer: &mut W, op: &Op) -> io::Result<()>
         Op::Insert(key, value) => print_write(writer, "insert ", key, value),
         Op::Update(key, value) => print_write(writer, "update ", key, value),
         Op::Upsert(key, value) => print_write(writer, "upsert ", key, value),
-        Op::Delete(key) => print_worded(writer, "delete ", key.as_bytes()),
+        Op::Delete(key) => print_keyed(writer, "delete ", key),
         Op::Add(key, amount) => print_add(writer, key, *amount),
     }
 }
@@ -32,7 +32,7 @@ fn print_write<'a, W: io::Write>(
         writer,
         &[
             Piece::Text(name),
-            Piece::Word(key.as_bytes()),
+            Piece::Key(key),
             Piece::Text(" "),
             Piece::Value(value),
             Piece::Text("\n"),
@@ -47,7 +47,7 @@ fn print_add<W: io::Write>(writer: &mut W, key: &Key, amount: u64) -> io::Result
         writer,
         &[
             Piece::Text("add "),
-            Piece::Word(key.as_bytes()),
+            Piece::Key(key),
             Piece::Text(" "),
             Piece::Number(amount),
             Piece::Text("\n"),

@@ -1,6 +1,6 @@
 //! The grammar of a line: one place for each number of words.
 ghost use Rattle.std.specs.Prelude.{◌≡◌, ◌∷◌, option_map};
-ghost use Rattle.node_shell.specs.Words.{words_of, label_in, text_in, value_written, amount_written, end_in};
+ghost use Rattle.node_shell.specs.Words.{words_of, label_in, written_in, amount_written, end_in};
 ghost use Rattle.node_shell.specs.Script.{command_of, unlabelled, of_three, of_four, write_of, add_of, scan_of, meaning};
 
 use crate::components::{crash, with_component};
@@ -11,7 +11,7 @@ use crate::names::{
     bare, kind_with_value, treating_leaf, with_key, with_label, with_number, with_savepoint,
 };
 use crate::script::cut_at;
-use crate::words::{amount_of, end_of, text_of, written};
+use crate::words::{amount_of, end_of, written};
 
 /// The line that these bytes are, if they are in the grammar.
 pub fn parse(line: &[u8]) -> Option<Line<'_>>
@@ -101,11 +101,11 @@ fn parse_four<'a>(name: &[u8], first: &[u8], second: &'a [u8], last: &'a [u8]) -
 
 /// A write whose label, key and value are these words.
 fn write<'a>(kind: Option<Kind>, label: &[u8], key: &'a [u8], value: &'a [u8]) -> Option<Line<'a>>
-    ensures { option_map meaning result ≡ write_of kind (label_in label.now) (text_in key.now) (value_written value.now) }
+    ensures { option_map meaning result ≡ write_of kind (label_in label.now) (written_in key.now) (written_in value.now) }
 {
     let kind = kind?;
     let label = Label::new(label)?;
-    let key = text_of(key)?;
+    let key = written(key)?;
     let value = written(value)?;
     Some(Line::Write {
         label,
@@ -117,20 +117,20 @@ fn write<'a>(kind: Option<Kind>, label: &[u8], key: &'a [u8], value: &'a [u8]) -
 
 /// An increment whose label, key and amount are these words.
 fn add<'a>(label: &[u8], key: &'a [u8], amount: &[u8]) -> Option<Line<'a>>
-    ensures { option_map meaning result ≡ add_of (label_in label.now) (text_in key.now) (amount_written amount.now) }
+    ensures { option_map meaning result ≡ add_of (label_in label.now) (written_in key.now) (amount_written amount.now) }
 {
     let label = Label::new(label)?;
-    let key = text_of(key)?;
+    let key = written(key)?;
     let amount = amount_of(amount)?;
     Some(Line::Add { label, key, amount })
 }
 
 /// A scan whose label and keys are these words.
 fn scan<'a>(label: &[u8], low: &'a [u8], high: &'a [u8]) -> Option<Line<'a>>
-    ensures { option_map meaning result ≡ scan_of (label_in label.now) (text_in low.now) (end_in high.now) }
+    ensures { option_map meaning result ≡ scan_of (label_in label.now) (written_in low.now) (end_in high.now) }
 {
     let label = Label::new(label)?;
-    let low = text_of(low)?;
+    let low = written(low)?;
     let high = end_of(high)?;
     Some(Line::Scan { label, low, high })
 }

@@ -1,12 +1,12 @@
 //! Bytes to a writer: all of them, or a beginning where a write fails.
 ghost use Rattle.std.specs.Prelude.{flat_map, length, ◌≤◌, IfOk};
 ghost use Rattle.std.specs.Io.KnownBytes.{WriteAppends};
-ghost use Rattle.node_shell.specs.Printed.{Prints, piece_text, shown_value, digits_text};
+ghost use Rattle.node_shell.specs.Printed.{Prints, piece_text, shown, digits_text};
 
 use crate::words::is_alphanumeric;
 use hex::encode_to_slice;
 use itoa::Buffer;
-use record_key::Value;
+use record_key::{Key, Value};
 use std::io;
 
 /// A part of a printed line.
@@ -14,9 +14,9 @@ use std::io;
 pub enum Piece<'a> {
     /// The text itself.
     Text(&'a str),
-    /// A key: a dot where it is empty.
-    Word(&'a [u8]),
-    /// A value: letters and digits for themselves, a dot where it is empty, else the digits of its bytes.
+    /// A key: letters and digits for themselves, else the digits of its bytes.
+    Key(&'a Key),
+    /// A value: the same, and a dot where it is empty.
     Value(&'a Value),
     /// A number in decimal.
     Number(u64),
@@ -37,29 +37,30 @@ fn put_piece<W: io::Write>(writer: &mut W, piece: &Piece<'_>) -> io::Result<()>
 {
     match piece {
         Piece::Text(text) => put(writer, text.as_bytes()),
-        Piece::Word([]) => put(writer, b"."),
-        Piece::Word(word) => put(writer, word),
-        Piece::Value(value) => put_value(writer, value),
+        Piece::Key(key) => put_shown(writer, key.as_bytes()),
+        Piece::Value(value) => put_shown(writer, value.as_bytes()),
         Piece::Number(number) => put(writer, Buffer::new().format(*number).as_bytes()),
     }
 }
 
-fn put_value<W: io::Write>(writer: &mut W, value: &Value) -> io::Result<()>
-    ensures { Prints (W.contents writer.old) (W.contents writer.new) result (shown_value value.now) }
+/// Writes the bytes of a key or a value.
+fn put_shown<W: io::Write>(writer: &mut W, bytes: &[u8]) -> io::Result<()>
+    requires { length bytes.now ≤ 120 }
+    ensures { Prints (W.contents writer.old) (W.contents writer.new) result (shown bytes.now) }
 {
-    match value.as_bytes() {
+    match bytes {
         [] => put(writer, b"."),
         bytes if is_alphanumeric(bytes) => put(writer, bytes),
-        _ => put_digits(writer, value),
+        _ => put_digits(writer, bytes),
     }
 }
 
 /// Writes a number sign and two hexadecimal digits for each byte.
-fn put_digits<W: io::Write>(writer: &mut W, value: &Value) -> io::Result<()>
-    ensures { Prints (W.contents writer.old) (W.contents writer.new) result (digits_text value.now) }
+fn put_digits<W: io::Write>(writer: &mut W, bytes: &[u8]) -> io::Result<()>
+    requires { length bytes.now ≤ 120 }
+    ensures { Prints (W.contents writer.old) (W.contents writer.new) result (digits_text bytes.now) }
 {
     put(writer, b"#")?;
-    let bytes = value.as_bytes();
     let mut room = [0; 2 * Value::MAX_LEN];
     let digits = &mut room[..2 * bytes.len()];
     match encode_to_slice(bytes, digits) {

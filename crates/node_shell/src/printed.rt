@@ -1,9 +1,9 @@
 //! The text of refusals, and of a line with one number, key or value.
 ghost use Rattle.std.specs.Prelude.{◌≡◌};
-ghost use Rattle.node_shell.specs.Printed.{Prints, number_behind, number_text, refusal_text, refusal_line, numbered, worded, valued};
+ghost use Rattle.node_shell.specs.Printed.{Prints, number_behind, number_text, refusal_text, refusal_line, numbered, worded};
 
 use crate::pieces::{Piece, print};
-use record_key::{Refusal, Value};
+use record_key::{Key, Refusal, Value};
 use std::io;
 
 /// The line of a refusal.
@@ -61,16 +61,12 @@ pub fn print_numbered<W: io::Write>(writer: &mut W, text: &str, number: u64) -> 
 }
 
 /// A line of a text and a key.
-pub fn print_worded<'a, W: io::Write>(
-    writer: &mut W,
-    text: &'a str,
-    word: &'a [u8],
-) -> io::Result<()>
-    ensures { Prints (W.contents writer.old) (W.contents writer.new) result (worded text.now word.now) }
+pub fn print_keyed<'a, W: io::Write>(writer: &mut W, text: &'a str, key: &'a Key) -> io::Result<()>
+    ensures { Prints (W.contents writer.old) (W.contents writer.new) result (worded text.now key.now) }
 {
     print(
         writer,
-        &[Piece::Text(text), Piece::Word(word), Piece::Text("\n")],
+        &[Piece::Text(text), Piece::Key(key), Piece::Text("\n")],
     )
 }
 
@@ -80,7 +76,7 @@ pub fn print_valued<'a, W: io::Write>(
     text: &'a str,
     value: &'a Value,
 ) -> io::Result<()>
-    ensures { Prints (W.contents writer.old) (W.contents writer.new) result (valued text.now value.now) }
+    ensures { Prints (W.contents writer.old) (W.contents writer.new) result (worded text.now value.now) }
 {
     print(
         writer,

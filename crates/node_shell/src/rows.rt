@@ -45,7 +45,7 @@ pub fn print_row<'a, W: io::Write>(writer: &mut W, key: &'a Key, value: &'a Valu
     print(
         writer,
         &[
-            Piece::Word(key.as_bytes()),
+            Piece::Key(key),
             Piece::Text("="),
             Piece::Value(value),
             Piece::Text("\n"),

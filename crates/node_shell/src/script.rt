@@ -40,7 +40,7 @@ pub fn request(line: &[u8]) -> Option<Line<'_>>
 }
 
 /// Whether the line is neither skipped nor in the grammar.
-fn is_fault(line: &[u8]) -> bool
+pub fn is_fault(line: &[u8]) -> bool
     ensures { result ≡ is_fault line.now }
 {
     !is_skipped(line) && parse(line).is_none()

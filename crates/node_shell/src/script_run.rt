@@ -128,7 +128,7 @@ fn run_from<D: CrashLog, P: CrashPages, W: io::Write>(
 }
 
 /// Runs a line and writes its text. Gives whether memory or a device failed in it.
-fn run_line<D: CrashLog, P: CrashPages, W: io::Write>(
+pub fn run_line<D: CrashLog, P: CrashPages, W: io::Write>(
     shell: &mut Shell<D, P>,
     line: &[u8],
     writer: &mut W,

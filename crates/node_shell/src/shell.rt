@@ -1,5 +1,5 @@
 //! The node with the labels of a script.
-ghost use Rattle.std.specs.Prelude.{◌≡◌, MatchResult, Some, None, OnOk, IfOk, IfErr, IsSome};
+ghost use Rattle.std.specs.Prelude.{◌≡◌, MatchResult, Some, None, OnOk, IfOk, IfErr, IsSome, option_map};
 ghost use Rattle.std.specs.Option.{option_copied};
 ghost use Rattle.std.specs.Ordering.{nat_cmp};
 ghost use Rattle.std.specs.Cmp.Lexicographic.{slice_cmp};
@@ -8,11 +8,11 @@ ghost use Rattle.record_key.specs.FirstCause.{RefusesAs};
 ghost use Rattle.world.specs.tc_core.specs.Causes.{begin_refusal};
 ghost use Rattle.world.specs.node_laws.specs.Node.{fresh_node, if_up};
 ghost use Rattle.node_shell.specs.Labels.{bound_number, unbound, AreSameBindings};
-ghost use Rattle.node_shell.specs.Script.{meaning};
+ghost use Rattle.node_shell.specs.Script.{meaning, written_bytes};
 ghost use Rattle.node_shell.specs.Text.{ComesTo, Begins, Writes, AddsAmount, Gets, Scans, Treats, IsTableShown, IsSettling, event_called, leaf_event, op_written, length_fault, keys_fault};
 
 use crate::label::{Label, Labels};
-use crate::line::{Call, Kind, LeafCall, Line};
+use crate::line::{Call, Kind, LeafCall, Line, Written};
 use crate::line_result::LineResult;
 use crate::row_list::RowList;
 use record_key::{Key, Op, Refusal, Value};
@@ -71,15 +71,19 @@ impl<D: CrashLog, P: CrashPages> Shell<D, P> {
                 kind,
                 key,
                 value,
-            } => LineResult::Event(self.write(label, *kind, key, value.as_bytes())),
-            Line::Add { label, key, amount } => LineResult::Event(self.add(label, key, *amount)),
-            Line::Get { label, key } => LineResult::Event(self.get(label, key)),
-            Line::Scan { label, low, high } => LineResult::Event(self.scan(label, low, *high)),
+            } => LineResult::Event(self.write(label, *kind, key.as_bytes(), value.as_bytes())),
+            Line::Add { label, key, amount } => {
+                LineResult::Event(self.add(label, key.as_bytes(), *amount))
+            }
+            Line::Get { label, key } => LineResult::Event(self.get(label, key.as_bytes())),
+            Line::Scan { label, low, high } => {
+                LineResult::Event(self.scan(label, low.as_bytes(), end_bytes(high)))
+            }
             Line::Call { label, call } => {
                 let event = event_called(*call, self.labels.number(label));
                 LineResult::Event(self.world.step(&event))
             }
-            Line::Leaf { call, key } => LineResult::Event(self.treat(*call, key)),
+            Line::Leaf { call, key } => LineResult::Event(self.treat(*call, key.as_bytes())),
             Line::Step(event) => LineResult::Event(self.world.step(event)),
             Line::Settle(most) => settled(self.alloc, &mut self.world, *most),
             Line::Table => self.table(),
@@ -133,7 +137,7 @@ impl<D: CrashLog, P: CrashPages> Shell<D, P> {
         self.world.step(&Event::Act { txn, op })
     }
 
-    /// AddsAmount to the number at a key that has a length that the node takes.
+    /// Adds to the number at a key that has a length that the node takes.
     fn add(&mut self, label: &Label, key: &[u8], amount: u64) -> Out
         ensures event { AddsAmount label.now key.now amount self.old.world (bound_number self.old.labels) result
             self.new.world }
@@ -211,6 +215,16 @@ fn op_of(kind: Kind, key: &[u8], value: &[u8]) -> Result<Op, Refusal>
         Kind::Upsert => Op::Upsert(key, value),
         Kind::Delete => Op::Delete(key),
     })
+}
+
+/// The bytes of an upper end.
+fn end_bytes<'a>(high: &'a Option<Written<'_>>) -> Option<&'a [u8]>
+    ensures { option_map (λ text. text.now) result ≡ option_map written_bytes high.now }
+{
+    match high {
+        Some(key) => Some(key.as_bytes()),
+        None => None,
+    }
 }
 
 /// The keys of a scan, unless one has a length that no key has.

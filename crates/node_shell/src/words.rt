@@ -1,8 +1,8 @@
-//! The words of a line: numbers, texts and values.
+//! The words of a line: numbers, keys and values.
 ghost use Rattle.std.specs.Prelude.{◌≡◌, ◌+◌, ◌*◌, ◌-◌, ◌^◌, ◌<◌, option_map, nat_lt, Some, None, if◌then◌else◌};
 ghost use Rattle.std.specs.List.{list_all, list_any};
 ghost use Rattle.std.specs.Char.{is_ascii_alphanumeric, is_ascii_uppercase};
-ghost use Rattle.node_shell.specs.Words.{is_plain, text_in, end_in, value_behind, number_in, amount_written, value_written, bytes_in};
+ghost use Rattle.node_shell.specs.Words.{is_plain, text_in, end_in, value_behind, number_in, amount_written, written_in, bytes_in};
 ghost use Rattle.node_shell.specs.Script.{written_bytes};
 
 use crate::line::Written;
@@ -57,7 +57,7 @@ fn value_of(digits: &[u8]) -> Option<u64>
 }
 
 /// The text that a word stands for: a dot for the empty text, letters and digits for themselves.
-pub fn text_of(word: &[u8]) -> Option<&[u8]>
+fn text_of(word: &[u8]) -> Option<&[u8]>
     ensures { option_map (λ text. text.now) result ≡ text_in word.now }
 {
     if word == b".".as_slice() {
@@ -66,9 +66,9 @@ pub fn text_of(word: &[u8]) -> Option<&[u8]>
     if is_plain(word) { Some(word) } else { None }
 }
 
-/// The value that a word stands for: a text, or a number sign and the digits of its bytes.
+/// The key or the value that a word stands for: a text, or a number sign and the digits of its bytes.
 pub fn written(word: &[u8]) -> Option<Written<'_>>
-    ensures { option_map written_bytes result ≡ value_written word.now }
+    ensures { option_map written_bytes result ≡ written_in word.now }
 {
     match word {
         [b'#', digits @ ..] => Some(Written::Bytes(bytes_of(digits)?)),
@@ -97,15 +97,15 @@ fn has_upper_case(digits: &[u8]) -> bool
     digits.iter().any(|digit| digit.is_ascii_uppercase())
 }
 
-/// The upper end that a word stands for: a star for none, or a text.
-pub fn end_of(word: &[u8]) -> Option<Option<&[u8]>>
-    ensures { option_map (λ end. option_map (λ text. text.now) end) result ≡ end_in word.now }
+/// The upper end that a word stands for: a star for none, or a key.
+pub fn end_of(word: &[u8]) -> Option<Option<Written<'_>>>
+    ensures { option_map (λ end. option_map written_bytes end) result ≡ end_in word.now }
 {
     if word == b"*".as_slice() {
         return Some(None);
     }
-    let text = text_of(word)?;
-    Some(Some(text))
+    let key = written(word)?;
+    Some(Some(key))
 }
 
 /// Whether the word is one or more letters or digits.

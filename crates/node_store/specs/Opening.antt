@@ -1,11 +1,12 @@
 -- Which logs a node is made of, and why one isn't opened.
-use Rattle.std.specs.Prelude.{◌≡◌, ℕ, List, ◌∷◌, Some}
-use Rattle.record_key.specs.declared.refusal.Refusal.TheVariants.{NoMemory}
+use Rattle.std.specs.Prelude.{◌≡◌, ◌⊎◌, ℕ, List, ◌∷◌, Some}
+use Rattle.record_key.specs.declared.refusal.Refusal.TheVariants.{NoMemory, Device}
+use Rattle.stable.specs.Usage.{Usage, called}
 use Rattle.history.specs.declared.record.Record.{Record}
 use Rattle.history.specs.declared.record.Record.TheVariants as is
 use Rattle.history.specs.Log.{record_at, before}
 use Rattle.history.specs.Values.{HasRightAnswers}
-use Rattle.logical_log.specs.Opening.{IsLogOf, RefusesOpen}
+use Rattle.logical_log.specs.Opening.{IsLogOf, RefusesOpen, UsedToOpen}
 use Rattle.node_store.specs.declared.unopened.Cause.{Cause}
 use Rattle.node_store.specs.declared.unopened.Cause.TheVariants as no
 
@@ -45,3 +46,11 @@ pub record IsWrongOn (bytes : List ℕ) (why : Cause) : Type 0 where
 abbrev pub IsRefusedFor : List ℕ → Cause → Type 0
 IsRefusedFor bytes (no.Refused r) = RefusesOpen bytes r
 IsRefusedFor bytes why = IsWrongOn bytes why
+
+-- how the device of a log was used that isn't opened. Device is answered just where a call failed that was due to: the
+-- one that reads it, or the next one, which cuts a last frame off. Where memory lacked it may be that none was made; else
+-- the one call that reads it was
+abbrev pub UsedInVain : Usage → Cause → Usage → Type 0
+UsedInVain old (no.Refused NoMemory) new = (new ≡ old) ⊎ (new ≡ called old)
+UsedInVain old (no.Refused r) new = UsedToOpen old r new
+UsedInVain old why new = new ≡ called old

@@ -7,7 +7,7 @@ ghost use Rattle.stable.specs.Usage.{called as called_once};
 ghost use Rattle.world.specs.tc_core.specs.Opening.{IsOpened};
 ghost use Rattle.world.specs.node_laws.specs.Node.{joined};
 ghost use Rattle.world.specs.node_laws.specs.Simulation.{NodeStandsFor};
-ghost use Rattle.node_store.specs.Opening.{IsFit, IsRefusedFor};
+ghost use Rattle.node_store.specs.Opening.{IsFit, IsRefusedFor, UsedInVain};
 
 use crate::judging::Judging;
 use crate::unopened::Unopened;
@@ -41,6 +41,7 @@ where
     ensures refused { IfErr result (λ left. IsRefusedFor (D.forced log) left.cause) }
     ensures forced { IfErr result (λ left. D.forced left.log ≡ D.forced log) }
     ensures none_pending { IfErr result (λ left. D.pending left.log ≡ []) }
+    ensures used { IfErr result (λ left. UsedInVain (D.usage log) left.cause (D.usage left.log)) }
 {
     let dc = match Dc::new(alloc, tree, pages) {
         Ok(dc) => dc,
@@ -66,6 +67,7 @@ where
     ensures refused { IfErr result (λ left. IsRefusedFor (D.forced log) left.cause) }
     ensures forced { IfErr result (λ left. D.forced left.log ≡ D.forced log) }
     ensures none_pending { IfErr result (λ left. D.pending left.log ≡ []) }
+    ensures used { IfErr result (λ left. UsedInVain (D.usage log) left.cause (D.usage left.log)) }
 {
     let mut judging = Judging::new(alloc);
     let found = match Found::read_judged(alloc, log, &mut judging) {

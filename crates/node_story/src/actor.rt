@@ -1,4 +1,5 @@
 //! Transactions, the keys that they hold, and their savepoints.
+use record_key::Key;
 
 /// How a transaction stands.
 #[derive(Clone, Copy)]
@@ -40,22 +41,22 @@ pub enum Mode {
 }
 
 /// Up to where keys are held.
-#[derive(Clone, Copy, PartialEq, Eq)]
-pub enum End<'a> {
+#[derive(PartialEq, Eq, Drop)]
+pub enum End {
     /// One key alone.
     Single,
-    Below(&'a [u8]),
+    Below(Key),
     Open,
 }
 
 /// Keys that a transaction holds.
-#[derive(Clone, Copy)]
-pub struct Hold<'a> {
+#[derive(Drop)]
+pub struct Hold {
     pub txn: u64,
     /// The record for which they were taken, 0 for a read.
     pub of: u64,
-    pub low: &'a [u8],
-    pub end: End<'a>,
+    pub low: Key,
+    pub end: End,
     pub mode: Mode,
 }
 

@@ -1,14 +1,14 @@
 //! Which keys a line takes.
 use crate::actor::{End, Hold, Mode};
 use crate::story::Story;
-use node_shell::Line;
 use node_shell::world::Out;
-use record_key::Refusal;
+use node_shell::{Line, Written};
+use record_key::{Key, Refusal};
 
 /// The keys that the line takes for this transaction, where it isn't refused.
-pub fn take_keys<'a>(
-    story: &mut Story<'a>,
-    line: &Line<'a>,
+pub fn take_keys(
+    story: &mut Story<'_>,
+    line: &Line<'_>,
     txn: u64,
     out: &Out,
 ) -> Result<(), Refusal> {
@@ -18,34 +18,34 @@ pub fn take_keys<'a>(
         _ => return Ok(()),
     };
     let hold = match line {
-        Line::Write { key, .. } => hold(txn, of, key, End::Single, Mode::Exclusive),
-        Line::Add { key, .. } => hold(txn, of, key, End::Single, Mode::Increment),
-        Line::Get { key, .. } => hold(txn, of, key, End::Single, Mode::Shared),
-        Line::Scan { low, high, .. } => hold(txn, of, low, end_of(*high), Mode::Shared),
+        Line::Write { key, .. } => hold(txn, of, key, End::Single, Mode::Exclusive)?,
+        Line::Add { key, .. } => hold(txn, of, key, End::Single, Mode::Increment)?,
+        Line::Get { key, .. } => hold(txn, of, key, End::Single, Mode::Shared)?,
+        Line::Scan { low, high, .. } => hold(txn, of, low, end_of(high)?, Mode::Shared)?,
         _ => return Ok(()),
     };
     add(&mut story.holds, hold)
 }
 
-fn hold<'a>(txn: u64, of: u64, low: &'a [u8], end: End<'a>, mode: Mode) -> Hold<'a> {
-    Hold {
+fn hold(txn: u64, of: u64, low: &Written<'_>, end: End, mode: Mode) -> Result<Hold, Refusal> {
+    Ok(Hold {
         txn,
         of,
-        low,
+        low: Key::new(low.as_bytes())?,
         end,
         mode,
-    }
+    })
 }
 
-fn end_of<'a>(high: Option<&'a [u8]>) -> End<'a> {
+fn end_of(high: &Option<Written<'_>>) -> Result<End, Refusal> {
     match high {
-        Some(high) => End::Below(high),
-        None => End::Open,
+        Some(high) => Ok(End::Below(Key::new(high.as_bytes())?)),
+        None => Ok(End::Open),
     }
 }
 
 /// Adds what isn't held already so, or exclusively.
-fn add<'a>(holds: &mut Vec<Hold<'a>>, hold: Hold<'a>) -> Result<(), Refusal> {
+fn add(holds: &mut Vec<Hold>, hold: Hold) -> Result<(), Refusal> {
     for other in holds.as_slice() {
         if covers(other, &hold) {
             return Ok(());
@@ -55,7 +55,7 @@ fn add<'a>(holds: &mut Vec<Hold<'a>>, hold: Hold<'a>) -> Result<(), Refusal> {
     Ok(())
 }
 
-fn covers(held: &Hold<'_>, hold: &Hold<'_>) -> bool {
+fn covers(held: &Hold, hold: &Hold) -> bool {
     held.txn == hold.txn
         && held.low == hold.low
         && held.end == hold.end
@@ -63,11 +63,11 @@ fn covers(held: &Hold<'_>, hold: &Hold<'_>) -> bool {
 }
 
 /// What the transaction held isn't held any more.
-pub fn let_go(holds: &mut Vec<Hold<'_>>, txn: u64) {
+pub fn let_go(holds: &mut Vec<Hold>, txn: u64) {
     holds.retain(|hold| hold.txn != txn);
 }
 
 /// Behind a crash just the operations that are left hold keys.
-pub fn keep_logged(holds: &mut Vec<Hold<'_>>, kept: u64) {
+pub fn keep_logged(holds: &mut Vec<Hold>, kept: u64) {
     holds.retain(|hold| hold.of >= 1 && hold.of <= kept);
 }

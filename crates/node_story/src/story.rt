@@ -14,7 +14,7 @@ pub struct Story<'a> {
     pub shell: Shell,
     pub steps: Vec<Step<'a>>,
     pub actors: Vec<Actor<'a>>,
-    pub holds: Vec<Hold<'a>>,
+    pub holds: Vec<Hold>,
     pub marks: Vec<Mark>,
     pub log: Vec<Logged>,
     pub messages: Vec<Message>,

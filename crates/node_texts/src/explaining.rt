@@ -136,7 +136,7 @@ fn put_text(
     text.say("line ")
         .number(number)
         .say("  ")
-        .word(line)
+        .bytes(line)
         .say("\n");
     if is_forgetting(line) {
         text.say("  - every message is let go: none that was sent so far can arrive any more\n");

@@ -12,7 +12,7 @@ pub fn put_round<W: io::Write>(text: &mut Text<'_, W>, story: &Story<'_>, step: 
         }
         Doing::Send | Doing::Undo => {
             let label = label_of(story.actors.as_slice(), step.txn);
-            text.word(label);
+            text.bytes(label);
         }
         _ => {}
     }

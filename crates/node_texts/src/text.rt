@@ -2,7 +2,7 @@
 use history::Record;
 use node_story::node_shell::{Piece, print, print_record, print_refusal, print_told, put};
 use node_story::world::Out;
-use record_key::Refusal;
+use record_key::{Key, Refusal};
 use std::io;
 
 /// A text on its way to a writer. Once a write has failed nothing more is written, and the text's end tells that.
@@ -39,9 +39,9 @@ impl<'a, W: io::Write> Text<'a, W> {
         self
     }
 
-    /// A key or a label: a dot where it is empty.
-    pub fn word(&mut self, word: &[u8]) -> &mut Self {
-        self.piece(Piece::Word(word))
+    /// A key.
+    pub fn key(&mut self, key: &Key) -> &mut Self {
+        self.piece(Piece::Key(key))
     }
 
     /// A place as a picture names it: how far right, a space, and how far down, in pixels.

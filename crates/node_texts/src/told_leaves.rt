@@ -43,7 +43,7 @@ fn tell_leaf(text: &mut Text<'_, Vec<u8>>, leaf: &Leaf) {
 fn tell_fences(text: &mut Text<'_, Vec<u8>>, low: Option<&Key>, high: Option<&Key>) {
     match low {
         Some(key) => {
-            text.say("keys from ").word(key.as_bytes()).say(" on");
+            text.say("keys from ").key(key).say(" on");
         }
         None => {
             text.say("keys from the first on");
@@ -51,7 +51,7 @@ fn tell_fences(text: &mut Text<'_, Vec<u8>>, low: Option<&Key>, high: Option<&Ke
     }
     match high {
         Some(key) => {
-            text.say(" and below ").word(key.as_bytes()).say("; ");
+            text.say(" and below ").key(key).say("; ");
         }
         None => {
             text.say(" to the last; ");

@@ -160,5 +160,5 @@ fn named(text: &mut Text<'_, Vec<u8>>, before: &str, story: &Story<'_>, txn: u64
 
 /// A transaction's label and number.
 pub fn put_name(text: &mut Text<'_, Vec<u8>>, label: &[u8], txn: u64) {
-    text.word(label).say(" (").number(txn).say(")");
+    text.bytes(label).say(" (").number(txn).say(")");
 }

@@ -69,13 +69,13 @@ fn tell_waiting(text: &mut Text<'_, Vec<u8>>, story: &Story<'_>, actor: &Actor<'
 }
 
 /// What the transaction holds, by how it does.
-fn tell_holds(text: &mut Text<'_, Vec<u8>>, holds: &[Hold<'_>], txn: u64) {
+fn tell_holds(text: &mut Text<'_, Vec<u8>>, holds: &[Hold], txn: u64) {
     tell_held(text, holds, txn, Mode::Exclusive, "; holds exclusively ");
     tell_held(text, holds, txn, Mode::Increment, "; holds for increments ");
     tell_held(text, holds, txn, Mode::Shared, "; holds shared ");
 }
 
-fn tell_held(text: &mut Text<'_, Vec<u8>>, holds: &[Hold<'_>], txn: u64, mode: Mode, words: &str) {
+fn tell_held(text: &mut Text<'_, Vec<u8>>, holds: &[Hold], txn: u64, mode: Mode, words: &str) {
     let mut is_first = true;
     for hold in holds {
         if hold.txn == txn && hold.mode == mode {
@@ -87,12 +87,12 @@ fn tell_held(text: &mut Text<'_, Vec<u8>>, holds: &[Hold<'_>], txn: u64, mode: M
 }
 
 /// A key, or the keys from one on.
-fn tell_span(text: &mut Text<'_, Vec<u8>>, hold: &Hold<'_>) {
-    text.word(hold.low);
-    match hold.end {
+fn tell_span(text: &mut Text<'_, Vec<u8>>, hold: &Hold) {
+    text.key(&hold.low);
+    match &hold.end {
         End::Single => {}
         End::Below(high) => {
-            text.say(" to below ").word(high);
+            text.say(" to below ").key(high);
         }
         End::Open => {
             text.say(" and all above");

@@ -17,7 +17,7 @@ pub fn tell_undo(text: &mut Text<'_, Vec<u8>>, story: &Story<'_>, actor: &Actor<
         State::Rolling { bound } => bound,
         _ => 0,
     };
-    text.say("    undo of ").word(actor.label).say(": ");
+    text.say("    undo of ").bytes(actor.label).say(": ");
     let chain = chain_of(story.log.as_slice(), actor.txn);
     if chain.next <= bound {
         tell_last(text, chain, bound);

@@ -7,4 +7,7 @@ pub mod Entering
 pub mod Marking
 pub mod Stable
 pub mod Sitting
+pub mod Commanding
+pub mod Adding
+pub mod Forcing
 pub mod Tending

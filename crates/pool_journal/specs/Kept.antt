@@ -37,7 +37,7 @@ IsLine line (Some p) = (t : ℕ) × ((l : Line) × (line ≡ Some l) × (line_to
 pub record PlaceKept {J : Type 0} (row : Shelves) (names : ℕ → ℕ) (es : List Step) (s : ℕ) (p : Place J)
     : Type 0 where
   pub number : p.number ≡ s
-  pub name : p.party.name ≡ names (s + 2)
+  pub name : p.party.name ≡ names (s + 3)
   pub sees : Sees (calls_of s) p.party.steps es
   pub live : p.live ≡ (part_of s es).live
   pub awaits : p.awaits ≡ pending (part_of s es).latest

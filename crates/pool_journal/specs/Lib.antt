@@ -2,12 +2,15 @@ pub mod Steps
 pub mod Sessions
 pub mod Slots
 pub mod Views
+pub mod Commands
+pub mod Adding
 pub mod Witnessed
 pub mod Kept
 pub mod Callers
 pub mod Desks
 pub mod Waiting
 pub mod Marking
+pub mod Forcing
 pub mod Ending
 pub mod Failing
 pub mod Errands

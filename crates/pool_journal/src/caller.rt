@@ -26,14 +26,14 @@ impl<J: Naming> Model for Caller<J> {
 
     ghost view = { λ c. record { number = c.number; part = part_of c.number c.visitor.steps } };
 
-    ghost invariant = { λ c. (c.number < J.sessions) × (c.visitor.name ≡ J.names (c.number + 2)) };
+    ghost invariant = { λ c. (c.number < J.sessions) × (c.visitor.name ≡ J.names (c.number + 3)) };
 }
 
 impl<J: Naming> Caller<J> {
     /// A session that has seen nothing.
     pub fn new(number: u64, mark: Mark) -> Caller<J>
         requires within { number < J.sessions }
-        requires name { mark.name ≡ J.names (number + 2) }
+        requires name { mark.name ≡ J.names (number + 3) }
         requires start { mark.number ≡ 0 }
         ensures { result ≡ record { number = number; part = no_part } }
     {

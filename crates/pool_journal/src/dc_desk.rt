@@ -1,12 +1,15 @@
 //! What lies under the lock of the data component.
-ghost use Rattle.std.specs.Prelude.{◌≡◌, ◌+◌, ℕ, true, false, None, Some, IfOk, IfErr, IfSome, IfNone, OnOk, OnErr};
+ghost use Rattle.std.specs.Prelude.{◌≡◌, ◌+◌, ◌++◌, ◌∷◌, ℕ, [], true, false, None, Some, IfOk, IfErr, IfSome, IfNone, OnOk, OnErr};
 ghost use Rattle.std.specs.Option.{option_copied};
 ghost use Rattle.node_sides.specs.node_laws.specs.Component as sides;
 ghost use Rattle.node_sides.specs.node_laws.specs.declared.event.Event.TheVariants as event;
 ghost use Rattle.node_sides.specs.node_laws.specs.declared.event.Out.TheVariants as out;
 ghost use Rattle.node_sides.specs.node_laws.specs.Halves.{of_tc, DcLeads, MayDc, IsInNode};
 ghost use Rattle.node_sides.specs.node_laws.specs.Messages.{message_at};
+ghost use Rattle.pool_journal.specs.Adding.{AddsEntry, WasSent};
+ghost use Rattle.pool_journal.specs.Commands.{commands, is_command};
 ghost use Rattle.pool_journal.specs.Desks.{delivers, TendsNothing};
+ghost use Rattle.pool_journal.specs.Kept.{is_dc};
 ghost use Rattle.pool_journal.specs.Slots.{Shown};
 ghost use Rattle.pool_journal.specs.Steps.{GivesDc, dc_start, count, requests};
 ghost use Rattle.pool_journal.specs.Witnessed.{AreWitnessed};
@@ -20,6 +23,7 @@ use crate::kept_out::KeptOut;
 use crate::lines::Unsent;
 use crate::message::Message;
 use crate::naming::Naming;
+use crate::operator::Operator;
 use crate::row::boxed;
 use crate::step::Step;
 use crate::tc_desk::next_number;
@@ -117,7 +121,7 @@ impl<J: Naming, D: CrashLog, P: CrashPages> DcDesk<J, D, P> {
     }
 
     /// Serves the request of this number, if the journal holds it as sent, and enters that. The journal's lock is free
-    /// while the request is served. Unsent where nothing that the desk has seen then sent it.
+    /// while the request is served. Unsent just where nothing that the desk has seen then sent it.
     pub fn serve<G: Gate, R: Wait>(
         &mut self,
         rt: &R,
@@ -129,6 +133,8 @@ impl<J: Naming, D: CrashLog, P: CrashPages> DcDesk<J, D, P> {
         requires row { row.now ≡ J.entries }
         ensures shown { IfOk result (λ token. Shown J.entries token) }
         ensures event { IfOk result (λ token. token.value.step.value.event ≡ event.Request number) }
+        ensures added { IfOk result (λ token. AddsEntry is_dc self.old.steps token self.new.steps) }
+        ensures sent { IfOk result (WasSent requests number) }
         ensures unsent { OnErr result (message_at (requests self.new.steps) number ≡ None) }
     {
         let DcDesk {
@@ -155,6 +161,8 @@ impl<J: Naming, D: CrashLog, P: CrashPages> DcDesk<J, D, P> {
         requires row { row.now ≡ J.entries }
         ensures shown { IfSome result (λ token. Shown J.entries token) }
         ensures event { IfSome result (λ token. token.value.step.value.event ≡ event.Tend) }
+        ensures added { IfSome result (λ token. AddsEntry is_dc self.old.steps token self.new.steps) }
+        ensures still { IfNone result (self.new.steps ≡ self.old.steps) }
         ensures rests { IfNone result (TendsNothing self.old.state.side self.new.state.side) }
     {
         let DcDesk {
@@ -184,9 +192,11 @@ impl<J: Naming, D: CrashLog, P: CrashPages> DcDesk<J, D, P> {
         requires row { row.now ≡ J.entries }
         requires dc { of_tc event ≡ false }
         requires alone { delivers event ≡ false }
+        requires mild { is_command event ≡ false }
         requires may { (dc : sides.DcSide) → MayDc dc event None }
         ensures shown { Shown J.entries result }
         ensures event { result.value.step.value.event ≡ event }
+        ensures added { AddsEntry is_dc self.old.steps result self.new.steps }
     {
         let DcDesk {
             alloc,
@@ -199,7 +209,7 @@ impl<J: Naming, D: CrashLog, P: CrashPages> DcDesk<J, D, P> {
         hold(rt, journal).enter_dc(rt, row, visitor, step)
     }
 
-    /// A crash or a restart, and its entry.
+    /// A restart, and its entry.
     pub fn turn<R: Wait>(
         &mut self,
         rt: &R,
@@ -210,9 +220,11 @@ impl<J: Naming, D: CrashLog, P: CrashPages> DcDesk<J, D, P> {
         requires row { row.now ≡ J.entries }
         requires dc { of_tc event ≡ false }
         requires alone { delivers event ≡ false }
+        requires mild { is_command event ≡ false }
         requires may { (dc : sides.DcSide) → IsInNode dc event None → MayDc dc event None }
         ensures shown { Shown J.entries result }
         ensures event { result.value.step.value.event ≡ event }
+        ensures added { AddsEntry is_dc self.old.steps result self.new.steps }
     {
         let DcDesk {
             alloc,
@@ -224,6 +236,60 @@ impl<J: Naming, D: CrashLog, P: CrashPages> DcDesk<J, D, P> {
         let (step, after) = stepped(rt, *alloc, side, *given, event, None);
         *given = after;
         hold(rt, journal).enter_dc(rt, row, visitor, step)
+    }
+
+    /// A crash, and its entry. Nothing is kept that isn't stable.
+    pub fn crash<R: Wait>(
+        &mut self,
+        rt: &R,
+        row: &Row<Entry>,
+        journal: &Mutex<Journal<J>>,
+        operator: &mut Operator<J>,
+    ) -> Pushed<Entry>
+        requires row { row.now ≡ J.entries }
+        ensures shown { Shown J.entries result }
+        ensures event { result.value.step.value.event ≡ event.CrashDc 0 0 }
+        ensures added { AddsEntry is_dc self.old.steps result self.new.steps }
+        ensures given { operator.new ≡ operator.old ++ event.CrashDc 0 0 ∷ [] }
+    {
+        let DcDesk {
+            alloc,
+            side,
+            given,
+            visitor,
+        } = self;
+        hold(rt, journal).look_dc(row, visitor, side, *given);
+        let event = Event::CrashDc {
+            frames: 0,
+            bytes: 0,
+        };
+        let (step, after) = stepped(rt, *alloc, side, *given, event, None);
+        *given = after;
+        hold(rt, journal).command_dc(rt, row, visitor, step, operator)
+    }
+
+    /// The component and the engine itself have seen all entries.
+    pub fn look<R: Wait>(
+        &mut self,
+        rt: &R,
+        row: &Row<Entry>,
+        journal: &Mutex<Journal<J>>,
+        operator: &mut Operator<J>,
+    )
+        requires row { row.now ≡ J.entries }
+        ensures state { self.new.state ≡ self.old.state }
+        ensures operator { operator.new ≡ operator.old }
+        ensures all { commands self.new.steps ≡ operator.old }
+    {
+        let DcDesk {
+            alloc: _,
+            side,
+            given,
+            visitor,
+        } = self;
+        let mut journal = hold(rt, journal);
+        journal.look_dc(row, visitor, side, *given);
+        journal.review(row, operator);
     }
 }
 

@@ -3,6 +3,7 @@ ghost use Rattle.std.specs.Prelude.{◌≡◌, ◌++◌, ◌∷◌, ℕ, [], Non
 ghost use Rattle.node_sides.specs.node_laws.specs.Halves.{IsSpelledIf, node_of};
 ghost use Rattle.node_sides.specs.node_laws.specs.Messages.{message_at};
 ghost use Rattle.pool_journal.specs.Callers.{IsGrown, IsNews, IsUntold};
+ghost use Rattle.pool_journal.specs.Commands.{commands, is_command};
 ghost use Rattle.pool_journal.specs.Ending.{LeavesNode};
 ghost use Rattle.pool_journal.specs.Kept.{is_dc, IsInRun, IsSentBy, EntersTc, EntersDc, PlacesKept, place_after};
 ghost use Rattle.pool_journal.specs.declared.news.News.{News};
@@ -18,21 +19,24 @@ use crate::entry::Entry;
 use crate::lines::{Lines, Unsent};
 use crate::naming::Naming;
 use crate::news::News;
+use crate::operator::Operator;
 use crate::place::Place;
 use crate::step::Step;
 use crate::stirs::Stirs;
-use crate::view::Visitor;
+use crate::view::{Party, Visitor};
 use boxcar::{Pushed, Vec as Row};
 use node_sides::{DcSide, TcSide};
 use stable::{CrashLog, CrashPages};
 use std::marker::Model;
 use std::sync::Wait;
+use tie::Book;
 
-/// The entries, and each session's place in them. Contracts see the steps.
+/// The entries, each session's place in them, and the engine's. Contracts see the steps.
 #[derive(Drop)]
 pub struct Journal<J: Naming> {
     lines: Lines<J>,
     places: Vec<Place<J>>,
+    own: Party<J>,
     stirs: Stirs,
 }
 
@@ -40,6 +44,7 @@ impl<J: Naming> Model for Journal<J> {
     ghost use Rattle.std.specs.Prelude.{◌≡◌, List, vec_len};
     ghost use Rattle.std.specs.Coded.{codes};
     ghost use Rattle.pool_journal.specs.declared.step.Step.{Step};
+    ghost use Rattle.pool_journal.specs.Commands.{OwnKept};
     ghost use Rattle.pool_journal.specs.Kept.{PlacesKept};
 
     ghost Value = { List Step };
@@ -48,7 +53,8 @@ impl<J: Naming> Model for Journal<J> {
 
     ghost view = { λ j. j.lines };
 
-    ghost invariant = { λ j. PlacesKept J.entries J.names j.lines j.places.items × (vec_len j.places ≡ J.sessions) };
+    ghost invariant = { λ j. PlacesKept J.entries J.names j.lines j.places.items × (vec_len j.places ≡ J.sessions)
+        × OwnKept J.names j.lines j.own };
 }
 
 // An entry may tell every session but its caller a line.
@@ -127,16 +133,18 @@ fn show<J: Naming>(
 }
 
 impl<J: Naming> Journal<J> {
-    /// A journal without entries, with the places of its sessions.
-    pub fn new(lines: Lines<J>, places: Vec<Place<J>>, stirs: Stirs) -> Journal<J>
+    /// A journal without entries, with the places of its sessions, and the engine's by its book.
+    pub fn new(lines: Lines<J>, places: Vec<Place<J>>, own: Book, stirs: Stirs) -> Journal<J>
         requires empty { lines ≡ [] }
         requires places { PlacesKept J.entries J.names [] places.items }
         requires count { vec_len places ≡ J.sessions }
+        requires own { (own.name ≡ J.names 2) × (own.number ≡ 0) }
         ensures { result ≡ [] }
     {
         Journal {
             lines,
             places,
+            own: Party::new(own),
             stirs,
         }
     }
@@ -168,6 +176,7 @@ impl<J: Naming> Journal<J> {
         let Journal {
             lines,
             places: _,
+            own: _,
             stirs: _,
         } = self;
         lines.meet_tc(row, visitor);
@@ -192,6 +201,7 @@ impl<J: Naming> Journal<J> {
         let Journal {
             lines,
             places: _,
+            own: _,
             stirs: _,
         } = self;
         lines.meet_tc(row, visitor);
@@ -222,6 +232,7 @@ impl<J: Naming> Journal<J> {
         let Journal {
             lines,
             places: _,
+            own: _,
             stirs: _,
         } = self;
         lines.meet_dc(row, visitor, side, given);
@@ -247,12 +258,13 @@ impl<J: Naming> Journal<J> {
         let Journal {
             lines,
             places: _,
+            own: _,
             stirs: _,
         } = self;
         lines.meet_dc(row, visitor, side, given);
     }
 
-    /// Enters a step of the data component.
+    /// Enters a step of the data component that is no command.
     pub fn enter_dc<R: Wait>(
         &mut self,
         rt: &R,
@@ -264,16 +276,20 @@ impl<J: Naming> Journal<J> {
         requires name { visitor.old.name ≡ J.names 1 }
         requires dc { is_dc step.value ≡ true }
         requires own { step.value.caller ≡ None }
+        requires mild { is_command step.value.event ≡ false }
         requires enters { (n : DcState) × EntersDc J.start visitor.old.steps step.value n }
         ensures shown { Shown J.entries result }
         ensures value { result.value.step.value ≡ step.value }
+        ensures before { result.value.before.steps ≡ self.old }
         ensures entered { self.new ≡ self.old ++ step.value ∷ [] }
         ensures visitor { visitor.new ≡ record { name = visitor.old.name; steps = self.new } }
+        ensures sees { Sees is_dc visitor.old.steps self.old }
         ensures gives { (n : DcState) → EntersDc J.start visitor.old.steps step.value n → GivesDc J.start visitor.new.steps n }
     {
         let Journal {
             lines,
             places,
+            own: _,
             stirs: _,
         } = self;
         let token = lines.enter_dc(rt, row, visitor, step);
@@ -281,7 +297,7 @@ impl<J: Naming> Journal<J> {
         token
     }
 
-    /// Enters a step of the transaction component that is no client's call.
+    /// Enters a step of the transaction component that is no client's call and no command.
     pub fn enter_tc<R: Wait>(
         &mut self,
         rt: &R,
@@ -293,6 +309,7 @@ impl<J: Naming> Journal<J> {
         requires name { visitor.old.name ≡ J.names 0 }
         requires tc { is_tc step.value ≡ true }
         requires own { step.value.caller ≡ None }
+        requires mild { is_command step.value.event ≡ false }
         requires enters { (n : TcState) × EntersTc J.start visitor.old.steps step.value n }
         ensures shown { Shown J.entries result }
         ensures value { result.value.step.value ≡ step.value }
@@ -305,11 +322,105 @@ impl<J: Naming> Journal<J> {
         let Journal {
             lines,
             places,
+            own: _,
             stirs: _,
         } = self;
         let token = lines.enter_tc(rt, row, visitor, step);
         hear_all(places, row.value(&token), &token);
         token
+    }
+
+    /// Enters a command of the engine to the data component.
+    pub fn command_dc<R: Wait>(
+        &mut self,
+        rt: &R,
+        row: &Row<Entry>,
+        visitor: &mut Visitor<J>,
+        step: Box<Step>,
+        operator: &mut Operator<J>,
+    ) -> Pushed<Entry>
+        requires row { row.now ≡ J.entries }
+        requires name { visitor.old.name ≡ J.names 1 }
+        requires dc { is_dc step.value ≡ true }
+        requires own { step.value.caller ≡ None }
+        requires command { is_command step.value.event ≡ true }
+        requires enters { (n : DcState) × EntersDc J.start visitor.old.steps step.value n }
+        ensures shown { Shown J.entries result }
+        ensures value { result.value.step.value ≡ step.value }
+        ensures before { result.value.before.steps ≡ self.old }
+        ensures entered { self.new ≡ self.old ++ step.value ∷ [] }
+        ensures visitor { visitor.new ≡ record { name = visitor.old.name; steps = self.new } }
+        ensures sees { Sees is_dc visitor.old.steps self.old }
+        ensures gives { (n : DcState) → EntersDc J.start visitor.old.steps step.value n → GivesDc J.start visitor.new.steps n }
+        ensures given { operator.new ≡ operator.old ++ step.value.event ∷ [] }
+        ensures first { commands self.old ≡ operator.old }
+    {
+        let Journal {
+            lines,
+            places,
+            own,
+            stirs: _,
+        } = self;
+        let token = lines.enter_dc(rt, row, visitor, step);
+        hear_all(places, row.value(&token), &token);
+        let Operator { visitor: operated } = operator;
+        own.meet(row, operated, &Some(token.again()));
+        token
+    }
+
+    /// Enters a command of the engine to the transaction component.
+    pub fn command_tc<R: Wait>(
+        &mut self,
+        rt: &R,
+        row: &Row<Entry>,
+        visitor: &mut Visitor<J>,
+        step: Box<Step>,
+        operator: &mut Operator<J>,
+    ) -> Pushed<Entry>
+        requires row { row.now ≡ J.entries }
+        requires name { visitor.old.name ≡ J.names 0 }
+        requires tc { is_tc step.value ≡ true }
+        requires own { step.value.caller ≡ None }
+        requires command { is_command step.value.event ≡ true }
+        requires enters { (n : TcState) × EntersTc J.start visitor.old.steps step.value n }
+        ensures shown { Shown J.entries result }
+        ensures value { result.value.step.value ≡ step.value }
+        ensures before { result.value.before.steps ≡ self.old }
+        ensures entered { self.new ≡ self.old ++ step.value ∷ [] }
+        ensures visitor { visitor.new ≡ record { name = visitor.old.name; steps = self.new } }
+        ensures sees { Sees is_tc visitor.old.steps self.old }
+        ensures gives { (n : TcState) → EntersTc J.start visitor.old.steps step.value n → GivesTc J.start visitor.new.steps n }
+        ensures given { operator.new ≡ operator.old ++ step.value.event ∷ [] }
+        ensures first { commands self.old ≡ operator.old }
+    {
+        let Journal {
+            lines,
+            places,
+            own,
+            stirs: _,
+        } = self;
+        let token = lines.enter_tc(rt, row, visitor, step);
+        hear_all(places, row.value(&token), &token);
+        let Operator { visitor: operated } = operator;
+        own.meet(row, operated, &Some(token.again()));
+        token
+    }
+
+    /// The engine itself has seen all entries: it knows of each command.
+    pub fn review(&mut self, row: &Row<Entry>, operator: &mut Operator<J>)
+        requires row { row.now ≡ J.entries }
+        ensures same { self.new ≡ self.old }
+        ensures operator { operator.new ≡ operator.old }
+        ensures all { commands self.old ≡ operator.old }
+    {
+        let Journal {
+            lines,
+            places: _,
+            own,
+            stirs: _,
+        } = self;
+        let Operator { visitor } = operator;
+        own.meet(row, visitor, &lines.last());
     }
 
     /// Enters a session's call.
@@ -325,10 +436,12 @@ impl<J: Naming> Journal<J> {
         requires name { visitor.old.name ≡ J.names 0 }
         requires tc { is_tc step.value ≡ true }
         requires own { step.value.caller ≡ Some caller.old.number }
+        requires mild { is_command step.value.event ≡ false }
         requires enters { (n : TcState) × EntersTc J.start visitor.old.steps step.value n }
         requires closed { IsClosed caller.old.part }
         ensures shown { Shown J.entries result }
         ensures value { result.value.step.value ≡ step.value }
+        ensures before { result.value.before.steps ≡ self.old }
         ensures entered { self.new ≡ self.old ++ step.value ∷ [] }
         ensures visitor { visitor.new ≡ record { name = visitor.old.name; steps = self.new } }
         ensures sees { Sees is_tc visitor.old.steps self.old }
@@ -340,6 +453,7 @@ impl<J: Naming> Journal<J> {
         let Journal {
             lines,
             places,
+            own: _,
             stirs,
         } = self;
         let token = lines.enter_tc(rt, row, visitor, step);
@@ -373,6 +487,7 @@ impl<J: Naming> Journal<J> {
         let Journal {
             lines,
             places,
+            own: _,
             stirs,
         } = self;
         let session = caller.number();
@@ -394,6 +509,7 @@ impl<J: Naming> Journal<J> {
         let Journal {
             lines,
             places,
+            own: _,
             stirs: _,
         } = self;
         if !is_cut_at(places, caller.number()) {
@@ -417,6 +533,7 @@ impl<J: Naming> Journal<J> {
         let Journal {
             lines,
             places,
+            own: _,
             stirs: _,
         } = self;
         show(lines, places, row, caller)
@@ -451,6 +568,7 @@ impl<J: Naming> Journal<J> {
         let Journal {
             lines: _,
             places: _,
+            own: _,
             stirs,
         } = self;
         stirs.set(session, true);
@@ -463,6 +581,7 @@ impl<J: Naming> Journal<J> {
         let Journal {
             lines: _,
             places,
+            own: _,
             stirs,
         } = self;
         let Caller { number, visitor: _ } = caller;

@@ -268,8 +268,10 @@ impl<J: Naming> Lines<J> {
         ensures shown { Shown J.entries result }
         ensures value { result.value.step.value ≡ step.value }
         ensures through { through result.value ≡ self.old ++ step.value ∷ [] }
+        ensures before { result.value.before.steps ≡ self.old }
         ensures entered { self.new ≡ self.old ++ step.value ∷ [] }
         ensures visitor { visitor.new ≡ record { name = visitor.old.name; steps = self.new } }
+        ensures sees { Sees is_dc visitor.old.steps self.old }
         ensures gives { (n : DcState) → EntersDc J.start visitor.old.steps step.value n → GivesDc J.start visitor.new.steps n }
     {
         let Lines {

@@ -17,7 +17,7 @@ pub trait Naming {
     /// The marks that its seats read.
     ghost marks: { TableId };
 
-    /// The ties: of the transaction component, of the data component, and of each session.
+    /// The ties: of the transaction component, of the data component, of the engine itself, and of each session.
     ghost names: { ℕ → ℕ };
 
     /// How many sessions there are.

@@ -30,7 +30,7 @@ pub struct Place<J: Naming> {
 impl<J: Naming> Place<J> {
     /// The place of a session that has seen nothing.
     pub fn new(number: u64, book: Book) -> Place<J>
-        requires name { book.name ≡ J.names (number + 2) }
+        requires name { book.name ≡ J.names (number + 3) }
         requires start { book.number ≡ 0 }
         ensures { PlaceKept J.entries J.names [] number result }
     {

@@ -1,17 +1,20 @@
 //! What lies under the lock of the transaction component.
-ghost use Rattle.std.specs.Prelude.{◌≡◌, ◌+◌, ◌≤◌, ℕ, true, false, max, IsTrue, Option, None, Some, IfOk, OnErr, IfSome};
+ghost use Rattle.std.specs.Prelude.{◌≡◌, ◌+◌, ◌≤◌, ◌++◌, ◌∷◌, ℕ, [], true, false, max, IsTrue, Option, None, Some, IfOk, OnErr, IfSome};
 ghost use Rattle.marks.specs.Seen.{raiser, reader};
 ghost use Rattle.node_sides.specs.tc_core.specs.Kept.{IsTc};
 ghost use Rattle.node_sides.specs.tc_core.specs.Replies.{is_of_another};
 ghost use Rattle.node_sides.specs.node_laws.specs.declared.event.Event.TheVariants as event;
 ghost use Rattle.node_sides.specs.node_laws.specs.Halves.{of_tc, TcLeads, TcTakes};
 ghost use Rattle.node_sides.specs.node_laws.specs.Messages.{message_at};
+ghost use Rattle.pool_journal.specs.Adding.{AddsEntry, WasSent};
+ghost use Rattle.pool_journal.specs.Commands.{commands, is_command};
 ghost use Rattle.pool_journal.specs.Desks.{delivers};
+ghost use Rattle.pool_journal.specs.Forcing.{Announces, Forces};
 ghost use Rattle.pool_journal.specs.Marking.{announced, low_of, IsLowOf};
 ghost use Rattle.pool_journal.specs.Sessions.{IsCalled, IsClosed, IsLeft, part_of};
 ghost use Rattle.pool_journal.specs.Slots.{Shown};
-ghost use Rattle.pool_journal.specs.Steps.{GivesTc, tc_start, count, replies};
-ghost use Rattle.pool_journal.specs.Witnessed.{AreWitnessed, IsEntered, LeftBytes, RunsIn};
+ghost use Rattle.pool_journal.specs.Steps.{GivesTc, is_tc, tc_start, count, replies};
+ghost use Rattle.pool_journal.specs.Witnessed.{AreWitnessed, LeftBytes, RunsIn, WasStable};
 
 use crate::caller::Caller;
 use crate::copying::{copied, lent};
@@ -25,6 +28,7 @@ use crate::lines::Unsent;
 use crate::message::Message;
 use crate::naming::Naming;
 use crate::next::Next;
+use crate::operator::Operator;
 use crate::row::boxed;
 use crate::step::Step;
 use crate::view::Visitor;
@@ -115,6 +119,7 @@ impl<J: Naming, D: CrashLog> TcDesk<J, D> {
     pub fn into_side(self, row: &Row<Entry>, journal: &mut Journal<J>) -> TcSide<D>
         requires row { row.now ≡ J.entries }
         ensures same { journal.new ≡ journal.old }
+        ensures side { result ≡ self.state.side }
         ensures gives { (sent : ℕ) × GivesTc J.start journal.old record { side = result; sent = sent } }
     {
         let TcDesk {
@@ -128,7 +133,7 @@ impl<J: Naming, D: CrashLog> TcDesk<J, D> {
         side
     }
 
-    /// A step that is no client's call and delivers nothing, and its entry.
+    /// A step that is no client's call and no command and delivers nothing, and its entry.
     pub fn enter<R: Wait>(
         &mut self,
         rt: &R,
@@ -138,9 +143,10 @@ impl<J: Naming, D: CrashLog> TcDesk<J, D> {
     ) -> Pushed<Entry>
         requires tc { of_tc event ≡ true }
         requires plain { delivers event ≡ false }
+        requires mild { is_command event ≡ false }
         ensures shown { Shown J.entries result }
         ensures event { result.value.step.value.event ≡ event }
-        ensures stood { GivesTc J.start result.value.before.steps self.old.state }
+        ensures added { AddsEntry is_tc self.old.steps result self.new.steps }
     {
         let TcDesk {
             alloc,
@@ -155,6 +161,37 @@ impl<J: Naming, D: CrashLog> TcDesk<J, D> {
         hold(rt, journal).enter_tc(rt, hall.row(), visitor, step)
     }
 
+    /// A command of the engine, and its entry.
+    pub fn command<R: Wait>(
+        &mut self,
+        rt: &R,
+        hall: &Hall<J>,
+        journal: &Mutex<Journal<J>>,
+        event: Event,
+        operator: &mut Operator<J>,
+    ) -> Pushed<Entry>
+        requires tc { of_tc event ≡ true }
+        requires command { is_command event ≡ true }
+        ensures shown { Shown J.entries result }
+        ensures event { result.value.step.value.event ≡ event }
+        ensures added { AddsEntry is_tc self.old.steps result self.new.steps }
+        ensures stood { GivesTc J.start result.value.before.steps self.old.state }
+        ensures given { operator.new ≡ operator.old ++ event ∷ [] }
+        ensures first { commands result.value.before.steps ≡ operator.old }
+    {
+        let TcDesk {
+            alloc,
+            side,
+            sent,
+            visitor,
+            seat,
+        } = self;
+        let (step, after) = stepped(rt, *alloc, side, *sent, None, event);
+        *sent = after;
+        mark(hall.marks(), seat, side, &step);
+        hold(rt, journal).command_tc(rt, hall.row(), visitor, step, operator)
+    }
+
     /// A session's call, and its entry.
     pub fn call<R: Wait>(
         &mut self,
@@ -166,9 +203,11 @@ impl<J: Naming, D: CrashLog> TcDesk<J, D> {
     ) -> Pushed<Entry>
         requires tc { of_tc event ≡ true }
         requires plain { delivers event ≡ false }
+        requires mild { is_command event ≡ false }
         requires closed { IsClosed caller.old.part }
         ensures shown { Shown J.entries result }
         ensures event { result.value.step.value.event ≡ event }
+        ensures added { AddsEntry is_tc self.old.steps result self.new.steps }
         ensures number { caller.new.number ≡ caller.old.number }
         ensures called { IsCalled caller.old.part event result.value.step.value.out caller.new.part }
         ensures own { result.value.step.value.caller ≡ Some caller.old.number }
@@ -187,8 +226,8 @@ impl<J: Naming, D: CrashLog> TcDesk<J, D> {
         hold(rt, journal).call(rt, hall.row(), visitor, step, caller)
     }
 
-    /// Takes the reply of this number, if the journal holds it as given, and enters that. Unsent where nothing that the
-    /// desk has seen then gave it.
+    /// Takes the reply of this number, if the journal holds it as given, and enters that. Unsent just where nothing that
+    /// the desk has seen then gave it.
     pub fn take<R: Wait>(
         &mut self,
         rt: &R,
@@ -198,6 +237,8 @@ impl<J: Naming, D: CrashLog> TcDesk<J, D> {
     ) -> Result<Pushed<Entry>, Unsent>
         ensures shown { IfOk result (λ token. Shown J.entries token) }
         ensures event { IfOk result (λ token. token.value.step.value.event ≡ event.Reply number) }
+        ensures added { IfOk result (λ token. AddsEntry is_tc self.old.steps token self.new.steps) }
+        ensures sent { IfOk result (WasSent replies number) }
         ensures unsent { OnErr result (message_at (replies self.new.steps) number ≡ None) }
     {
         let TcDesk {
@@ -224,24 +265,66 @@ impl<J: Naming, D: CrashLog> TcDesk<J, D> {
         hall: &Hall<J>,
         journal: &Mutex<Journal<J>>,
     ) -> (Option<Pushed<Entry>>, Option<Pushed<Entry>>)
-        ensures forced { IsEntered J.entries event.Force }
+        ensures forces { Forces J.start J.entries self.old result.0 result.1 self.new }
         ensures tell { IfSome result.0 (λ token. Shown J.entries token) }
         ensures low { IfSome result.1 (λ token. Shown J.entries token) }
     {
         let token = self.enter(rt, hall, journal, Event::Force);
+        self.kept();
         if !hall.row().value(&token).step.out.tells_commit() {
             return (None, None);
         }
         let tell = self.enter(rt, hall, journal, Event::Tell);
-        (Some(tell), self.announce(rt, hall, journal))
+        self.kept();
+        let low = self.announce(rt, hall, journal);
+        (Some(tell), low)
     }
 
     /// The component crashes, and keeps so many bytes of what isn't stable of its log; and the entry of that.
-    pub fn crash<R: Wait>(&mut self, rt: &R, hall: &Hall<J>, journal: &Mutex<Journal<J>>, kept: u64)
-        ensures { LeftBytes J.start J.entries kept }
+    pub fn crash<R: Wait>(
+        &mut self,
+        rt: &R,
+        hall: &Hall<J>,
+        journal: &Mutex<Journal<J>>,
+        kept: u64,
+        operator: &mut Operator<J>,
+    ) -> Pushed<Entry>
+        ensures added { AddsEntry is_tc self.old.steps result self.new.steps }
+        ensures left { LeftBytes J.start J.entries kept operator.old result operator.new }
     {
         let (frames, bytes) = self.side.cut_after(kept).unwrap_or((0, kept));
-        self.enter(rt, hall, journal, Event::CrashTc { frames, bytes });
+        self.command(
+            rt,
+            hall,
+            journal,
+            Event::CrashTc { frames, bytes },
+            operator,
+        )
+    }
+
+    /// The component and the engine itself have seen all entries.
+    pub fn look<R: Wait>(
+        &mut self,
+        rt: &R,
+        row: &Row<Entry>,
+        journal: &Mutex<Journal<J>>,
+        operator: &mut Operator<J>,
+    )
+        requires row { row.now ≡ J.entries }
+        ensures state { self.new.state ≡ self.old.state }
+        ensures operator { operator.new ≡ operator.old }
+        ensures all { commands self.new.steps ≡ operator.old }
+    {
+        let TcDesk {
+            alloc: _,
+            side: _,
+            sent: _,
+            visitor,
+            seat: _,
+        } = self;
+        let mut journal = hold(rt, journal);
+        journal.look_tc(row, visitor);
+        journal.review(row, operator);
     }
 
     // Announces all that is answered, where that is more than what is announced.
@@ -251,7 +334,8 @@ impl<J: Naming, D: CrashLog> TcDesk<J, D> {
         hall: &Hall<J>,
         journal: &Mutex<Journal<J>>,
     ) -> Option<Pushed<Entry>>
-        ensures { IfSome result (λ token. Shown J.entries token) }
+        ensures announces { Announces self.old result self.new }
+        ensures shown { IfSome result (λ token. Shown J.entries token) }
     {
         let low = self.side.greatest_low().unwrap_or(0);
         if low <= hall.marks().read(&mut self.seat).1 {
@@ -260,13 +344,16 @@ impl<J: Naming, D: CrashLog> TcDesk<J, D> {
         Some(self.enter(rt, hall, journal, Event::LowWater { low }))
     }
 
-    /// A seat learns what this component's has seen of the marks: how far the log is stable.
+    /// A seat learns what this component's has seen of the marks: how far the log is stable. The seat had seen no more.
     pub fn teach(&mut self, hall: &Hall<J>, seat: &mut Seat) -> u64
         requires seat { seat.old.marks ≡ J.marks }
-        ensures same { self.new ≡ self.old }
+        ensures same { (self.new.steps ≡ self.old.steps) × (self.new.state ≡ self.old.state) }
         ensures learned { seat.new ≡ reader J.marks self.old.seat.stable self.old.seat.low }
         ensures stable { result ≡ self.old.seat.stable }
+        ensures stood { WasStable J.start J.entries result }
+        ensures bounded { seat.old.stable ≤ self.old.state.side.tc.stable }
     {
+        self.visitor.kept();
         hall.marks().learn(&mut self.seat, seat);
         hall.marks().read(&mut self.seat).0
     }

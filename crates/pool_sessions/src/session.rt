@@ -1,13 +1,14 @@
 //! A client's calls.
 ghost use Rattle.std.specs.Prelude.{◌≡◌, ◌≤◌, ℕ, Some, None, IfOk, IfErr};
 ghost use Rattle.history.specs.ListMachine.{TellsAnswer, TellsRow, TellsRows, TellsBack, TellsRolledBack, TellsCommitted};
-ghost use Rattle.marks.specs.Seen.{reader, seeing};
+ghost use Rattle.marks.specs.Seen.{having_read};
 ghost use Rattle.shared_node.specs.node_laws.specs.declared.event.Event.TheVariants as event;
 ghost use Rattle.shared_node.specs.node_laws.specs.declared.event.Out.TheVariants as out;
 ghost use Rattle.shared_node.specs.session_answers.specs.Answers.{AddsCall, AddsLiveCall, RefusedCall, RefusedBegin, Ends, IsUncalled, ShowsBegun};
-ghost use Rattle.shared_node.specs.session_answers.specs.Again.{CarriesOn, IsSeenBy, RefusedAgain, Resumes};
+ghost use Rattle.shared_node.specs.session_answers.specs.Again.{CarriesOn, IsSeenBy, IsStableAt, RefusedAgain, Resumes};
 ghost use Rattle.shared_node.specs.session_answers.specs.Asking.{event_of};
 ghost use Rattle.shared_node.specs.pool_journal.specs.Sessions.{IsClosed};
+ghost use Rattle.shared_node.specs.pool_journal.specs.Witnessed.{WasStable};
 
 use crate::ahead::Ahead;
 use codec::Rows;
@@ -76,22 +77,23 @@ impl<J: Naming, G: Gate + Drop, D: CrashLog + Drop, P: CrashPages + Drop> Sessio
         }
     }
 
-    /// What the session has seen of the journal.
-    pub fn into_caller(self) -> Caller<J>
-        ensures number { result.number ≡ self.number }
-        ensures part { result.part ≡ self.part }
+    /// What the session has seen of the journal, and its seat at the marks.
+    pub fn into_parts(self) -> (Caller<J>, Seat)
+        ensures caller { result.0 ≡ record { number = self.number; part = self.part } }
+        ensures seat { result.1 ≡ self.seat }
+        ensures marks { result.1.marks ≡ J.marks }
     {
-        let Session { caller, .. } = self;
-        caller
+        let Session { caller, seat, .. } = self;
+        (caller, seat)
     }
 
-    /// How far the log is stable, and up to which number all is answered and announced. It neither waits nor locks, and
-    /// answers no less than the session has seen.
+    /// How far the log is stable, and up to which number all is answered and announced, as this call reads it. It neither
+    /// waits nor locks, and answers no less than the session has seen.
     pub fn marks(&mut self) -> (u64, u64)
         ensures session { (self.new.number ≡ self.old.number) × (self.new.part ≡ self.old.part) }
         ensures ordered { result.1 ≤ result.0 }
         ensures never_falls { (self.old.seat.stable ≤ result.0) × (self.old.seat.low ≤ result.1) }
-        ensures seen { self.new.seat ≡ seeing self.old.seat result.0 result.1 }
+        ensures read { self.new.seat ≡ having_read self.old.seat result.0 result.1 }
     {
         let Session {
             caller: _,
@@ -229,7 +231,8 @@ impl<J: Naming, G: Gate + Drop, D: CrashLog + Drop, P: CrashPages + Drop> Sessio
         ensures committed { IfOk result (λ n. (u : ℕ) ×
             AddsLiveCall (λ t. event.Commit t) (out.CommitLogged n) (Some (TellsCommitted u)) self.old.part self.new.part
             × (self.new.part.live ≡ None)) }
-        ensures stable { IfOk result (λ n. n ≤ self.new.seat.stable) }
+        ensures seen { IfOk result (λ n. n ≤ self.new.seat.stable) }
+        ensures stable { IfOk result (WasStable J.start J.entries) }
         ensures refused { IfErr result (λ r. RefusedCall (λ t. event.Commit t) self.old.part r self.new.part) }
     {
         let ended = self.run(rt, Ask::Commit)?;
@@ -244,7 +247,8 @@ impl<J: Naming, G: Gate + Drop, D: CrashLog + Drop, P: CrashPages + Drop> Sessio
     pub fn again<R: Wait>(&mut self, rt: &R) -> Result<Told, Refusal>
         ensures number { self.new.number ≡ self.old.number }
         ensures told { IfOk result (λ told. CarriesOn self.old.part told self.new.part) }
-        ensures stable { IfOk result (IsSeenBy self.new.seat.stable) }
+        ensures seen { IfOk result (IsSeenBy self.new.seat.stable) }
+        ensures stable { IfOk result (IsStableAt J.start J.entries) }
         ensures refused { IfErr result (λ r. RefusedAgain self.old.part r self.new.part) }
     {
         let ended = self.resume(rt)?;
@@ -256,7 +260,8 @@ impl<J: Naming, G: Gate + Drop, D: CrashLog + Drop, P: CrashPages + Drop> Sessio
     // Of a commit that was told the session sees that its record is stable.
     fn learn_of<R: Wait>(&mut self, rt: &R, told: &Told)
         ensures same { (self.new.number ≡ self.old.number) × (self.new.part ≡ self.old.part) }
-        ensures stable { IsSeenBy self.new.seat.stable told.now }
+        ensures seen { IsSeenBy self.new.seat.stable told.now }
+        ensures stable { IsStableAt J.start J.entries told.now }
     {
         if let Told::Committed(number) = told {
             self.learn(rt, *number);
@@ -284,7 +289,8 @@ impl<J: Naming, G: Gate + Drop, D: CrashLog + Drop, P: CrashPages + Drop> Sessio
     // The session sees that the log is stable up to the record.
     fn learn<R: Wait>(&mut self, rt: &R, number: u64)
         ensures same { (self.new.number ≡ self.old.number) × (self.new.part ≡ self.old.part) }
-        ensures stable { number ≤ self.new.seat.stable }
+        ensures seen { number ≤ self.new.seat.stable }
+        ensures stable { WasStable J.start J.entries number }
     {
         let Session {
             caller: _,

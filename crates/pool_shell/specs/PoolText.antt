@@ -5,14 +5,14 @@ use Rattle.record_key.specs.declared.refusal.Refusal.{Refusal}
 use Rattle.record_key.specs.declared.refusal.Refusal.TheVariants.{NotConnected}
 use Rattle.record_key.specs.Rows.{Row}
 use Rattle.record_key.specs.Table.{Bytes}
-use Rattle.node_shell.specs.Printed.{refusal_line, value_if}
+use Rattle.node_shell.specs.Printed.{refusal_line, shown_if}
 use Rattle.node_shell.specs.Stored.{table_text}
 use Rattle.node_shell.specs.Text.{WritesAlone}
 
 -- the value that a client read, a dash where there is no record
 abbrev pub read_line : ℕ → Option Bytes → List ℕ
 read_line client value =
-    concat (codes "session " ∷ decimal client ∷ codes " read " ∷ value_if value ∷ codes "\n" ∷ [])
+    concat (codes "session " ∷ decimal client ∷ codes " read " ∷ shown_if value ∷ codes "\n" ∷ [])
 
 -- a line of each client, the first of them numbered one more than this
 abbrev pub reads_text : ℕ → List (Option Bytes) → List ℕ

@@ -40,7 +40,7 @@ pub struct Played<J: Naming, G> {
 pub fn play_all<J, G, R>(
     rt: R,
     alloc: Global,
-    engine: &Engine<J, G>,
+    engine: &mut Engine<J, G>,
     sessions: Vec<Session<J, G>>,
     holding: &Arc<Holding>,
     rounds: u64,
@@ -134,7 +134,7 @@ fn follow<J: Naming, G: Gate + Drop, R: Wait>(
 }
 
 // Brings the components up, and again where that is refused.
-fn restart<J, G, R>(rt: &R, engine: &Engine<J, G>)
+fn restart<J, G, R>(rt: &R, engine: &mut Engine<J, G>)
 where
     J: Naming + Drop + Send + Sync + 'static,
     G: Gate + Drop + Send + Sync + 'static,

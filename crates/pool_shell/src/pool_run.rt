@@ -78,8 +78,8 @@ where
 {
     let holding = Arc::new(alloc, Holding::new(rounds >= 2))?;
     let door = Door::new(rt, Arc::try_clone(&holding)?);
-    let (engine, sessions) = Engine::<J, Door<R>>::new(rt, opened, WORKERS, door)?;
-    match play_all(rt, alloc, &engine, sessions, &holding, rounds) {
+    let (mut engine, sessions) = Engine::<J, Door<R>>::new(rt, opened, WORKERS, door)?;
+    match play_all(rt, alloc, &mut engine, sessions, &holding, rounds) {
         Ok(Played { sessions, values }) => Ok((values, engine.close(&rt, sessions)?)),
         Err(refusal) => {
             let _ = engine.close(&rt, Vec::new(alloc));

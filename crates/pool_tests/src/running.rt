@@ -103,8 +103,8 @@ where
     requires named { IsNamed opened J.start J.entries J.marks J.names J.sessions }
     requires some { 0 < workers }
 {
-    let (engine, sessions) = Engine::<J, Door>::new(rt, opened, workers, door)?;
-    let played = play(rt, alloc, &engine, sessions, stage, case);
+    let (mut engine, sessions) = Engine::<J, Door>::new(rt, opened, workers, door)?;
+    let played = play(rt, alloc, &mut engine, sessions, stage, case);
     close(rt, alloc, engine, played, case)
 }
 
@@ -163,7 +163,7 @@ fn judge<L: Leaves>(
 fn play<J, R>(
     rt: R,
     alloc: Global,
-    engine: &Engine<J, Door>,
+    engine: &mut Engine<J, Door>,
     sessions: Vec<Session<J, Door>>,
     stage: &Arc<Stage>,
     case: &Case<'_>,

@@ -75,7 +75,7 @@ fn perform<S: Serves + Drop, R: Wait>(
 pub fn play_table<J, R>(
     rt: R,
     alloc: Global,
-    engine: &Engine<J, Door>,
+    engine: &mut Engine<J, Door>,
     clients: &mut Vec<Client<J>>,
     stage: &Arc<Stage>,
     table: &Table<'_>,
@@ -94,7 +94,7 @@ where
 fn play_beside<J, R>(
     rt: R,
     alloc: Global,
-    engine: &Engine<J, Door>,
+    engine: &mut Engine<J, Door>,
     clients: &mut Vec<Client<J>>,
     stage: &Arc<Stage>,
     table: &Table<'_>,
@@ -138,7 +138,7 @@ fn join<J: Naming + Drop, R: Threads>(
 pub fn play_many<J, R>(
     rt: R,
     alloc: Global,
-    engine: &Engine<J, Door>,
+    engine: &mut Engine<J, Door>,
     clients: &mut Vec<Client<J>>,
     stage: &Arc<Stage>,
     many: &Many,

@@ -6,7 +6,6 @@ pub mod Search
 pub mod Rows
 pub mod Numbers
 pub mod WordOrder
-pub mod Padding
 pub mod Kept
 pub mod Packing
 pub mod Amounts

@@ -8,5 +8,4 @@ pub mod Places
 pub mod Rows
 pub mod Entries
 pub mod Packed
-pub mod Inline
 pub mod Lent

@@ -3,15 +3,17 @@ ghost use Rattle.std.specs.Prelude.{◌≡◌, ◌<◌, ◌≤◌, ◌↔◌, �
 ghost use Rattle.std.specs.Ordering.{nat_cmp};
 ghost use Rattle.std.specs.Cmp.Lexicographic.{slice_cmp, nat_list_cmp_total, texts_po, texts_ties};
 
-use crate::inline::Inline;
 use crate::refusal::Refusal;
+use crate::words::order_of_texts;
+use arrayvec::ArrayVec;
+use std::alloc::AllocError;
 use std::cmp::Ordering;
 use std::marker::Model;
 
 /// A key: 1 to 32 bytes, kept inline. Keys are ordered by their bytes, a beginning first.
-#[derive(Debug, Clone, PartialEq, Eq, Drop)]
+#[derive(Debug, PartialEq, Eq, Drop)]
 pub struct Key {
-    bytes: Inline<32>,
+    bytes: ArrayVec<u8, 32>,
 }
 
 impl Model for Key {
@@ -22,11 +24,11 @@ impl Model for Key {
 
     ghost coded = { coded_list coded_ℕ };
 
-    ghost view = { λ k. k.bytes };
+    ghost view = { λ k. k.bytes.items };
 
-    ghost invariant = { λ k. (0 < length k.bytes) × (length k.bytes ≤ 32) };
+    ghost invariant = { λ k. (0 < length k.bytes.items) × (length k.bytes.items ≤ 32) };
 
-    ghost inverse = { λ bytes. record { bytes = bytes } };
+    ghost inverse = { λ bytes. record { bytes = record { items = bytes } } };
 }
 
 impl Key {
@@ -42,9 +44,9 @@ impl Key {
         if bytes.is_empty() {
             return Err(Refusal::EmptyKey);
         }
-        match Inline::new(bytes) {
-            Some(bytes) => Ok(Key { bytes }),
-            None => Err(Refusal::TooLong),
+        match ArrayVec::try_from(bytes) {
+            Ok(bytes) => Ok(Key { bytes }),
+            Err(_) => Err(Refusal::TooLong),
         }
     }
 
@@ -61,7 +63,22 @@ impl Key {
     pub fn copied(&self) -> Key
         ensures { result ≡ self.now }
     {
-        Key { bytes: self.bytes }
+        match ArrayVec::try_from(self.as_bytes()) {
+            Ok(bytes) => Key { bytes },
+            Err(_) => unreachable!(),
+        }
+    }
+}
+
+impl Clone for Key {
+    ghost use Rattle.std.specs.Prelude.{◌≡◌, ⊤};
+
+    ghost is_clone = { λ a b. b ≡ a };
+
+    ghost is_infallible = { λ _. ⊤ };
+
+    fn clone(&self) -> Result<Self, AllocError> {
+        Ok(self.copied())
     }
 }
 
@@ -85,6 +102,6 @@ impl Ord for Key {
     ghost matches_eq = { λ a b. texts_ties a b };
 
     fn cmp(&self, other: &Self) -> Ordering {
-        self.bytes.order(&other.bytes)
+        order_of_texts(self.as_bytes(), other.as_bytes())
     }
 }

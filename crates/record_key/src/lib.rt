@@ -8,7 +8,6 @@
 
 mod entries;
 mod entry;
-mod inline;
 mod key;
 mod laws;
 mod lent;

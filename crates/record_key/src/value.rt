@@ -2,15 +2,16 @@
 ghost use Rattle.std.specs.Prelude.{◌≡◌, ◌<◌, ◌≤◌, length};
 ghost use Rattle.record_key.specs.Amounts.{summed};
 
-use crate::inline::Inline;
 use crate::refusal::Refusal;
+use arrayvec::ArrayVec;
 use byteorder::{BigEndian, ByteOrder};
+use std::alloc::AllocError;
 use std::marker::Model;
 
 /// A value: 0 to 120 bytes, kept inline.
-#[derive(Debug, Clone, PartialEq, Eq, Drop)]
+#[derive(Debug, PartialEq, Eq, Drop)]
 pub struct Value {
-    bytes: Inline<120>,
+    bytes: ArrayVec<u8, 120>,
 }
 
 impl Model for Value {
@@ -21,11 +22,11 @@ impl Model for Value {
 
     ghost coded = { coded_list coded_ℕ };
 
-    ghost view = { λ v. v.bytes };
+    ghost view = { λ v. v.bytes.items };
 
-    ghost invariant = { λ v. length v.bytes ≤ 120 };
+    ghost invariant = { λ v. length v.bytes.items ≤ 120 };
 
-    ghost inverse = { λ bytes. record { bytes = bytes } };
+    ghost inverse = { λ bytes. record { bytes = record { items = bytes } } };
 }
 
 impl Value {
@@ -37,9 +38,9 @@ impl Value {
         ensures ok { length bytes.now ≤ 120 → result ≡ Ok bytes.now }
         ensures too_long { 120 < length bytes.now → result ≡ Err Refusal.TooLong }
     {
-        match Inline::new(bytes) {
-            Some(bytes) => Ok(Value { bytes }),
-            None => Err(Refusal::TooLong),
+        match ArrayVec::try_from(bytes) {
+            Ok(bytes) => Ok(Value { bytes }),
+            Err(_) => Err(Refusal::TooLong),
         }
     }
 
@@ -55,7 +56,10 @@ impl Value {
     pub fn copied(&self) -> Value
         ensures { result ≡ self.now }
     {
-        Value { bytes: self.bytes }
+        match ArrayVec::try_from(self.as_bytes()) {
+            Ok(bytes) => Value { bytes },
+            Err(_) => unreachable!(),
+        }
     }
 
     /// The number that the value is with an amount more, which runs round at 2^64; none where it is no number, which
@@ -70,5 +74,17 @@ impl Value {
         }
         let sum = BigEndian::read_u64(bytes).wrapping_add(amount);
         Value::new(&sum.to_be_bytes()).ok()
+    }
+}
+
+impl Clone for Value {
+    ghost use Rattle.std.specs.Prelude.{◌≡◌, ⊤};
+
+    ghost is_clone = { λ a b. b ≡ a };
+
+    ghost is_infallible = { λ _. ⊤ };
+
+    fn clone(&self) -> Result<Self, AllocError> {
+        Ok(self.copied())
     }
 }

@@ -56,7 +56,8 @@ impl Kind {
     pub(crate) fn meaning(self) -> &'static str {
         match self {
             Kind::Label => "a label: 1 to 8 lower case letters or digits",
-            Kind::Key => "a key: letters and digits, or a dot for the empty text",
+            Kind::Key =>
+                "a key: letters and digits, a dot, or # and 1 to 120 bytes of two lower case hexadecimal digits",
             Kind::Value =>
                 "a value: letters and digits, a dot, or # and 1 to 120 bytes of two lower case hexadecimal digits",
             Kind::End => "the end of a range: a key, or * for none",

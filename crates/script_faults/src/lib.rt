@@ -12,4 +12,4 @@ mod near;
 mod texts;
 
 pub use labels::{Rebound, first_rebound};
-pub use texts::reason;
+pub use texts::{reason, reason_of};

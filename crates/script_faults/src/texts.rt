@@ -11,13 +11,16 @@ const MOST_SHOWN: usize = 60;
 /// Which line of a script is outside the grammar, and why; none where it has no such line.
 pub fn reason(alloc: Global, script: &[u8]) -> Result<Option<String>, AllocError> {
     match first_fault(script) {
-        Some(number) => Ok(Some(reason_at(alloc, script, number)?)),
+        Some(number) => {
+            let line = line_at(script, number);
+            Ok(Some(reason_of(alloc, number, line)?))
+        }
         None => Ok(None),
     }
 }
 
-fn reason_at(alloc: Global, script: &[u8], number: u64) -> Result<String, AllocError> {
-    let line = line_at(script, number);
+/// Why this line, which has this number, is outside the grammar.
+pub fn reason_of(alloc: Global, number: u64, line: &[u8]) -> Result<String, AllocError> {
     let mut text = String::new(alloc);
     write!(text, "line {number} `")?;
     put_shown(&mut text, line)?;

@@ -12,6 +12,8 @@ use Rattle.pool_journal.specs.Errands.{EndsWithFailure, is_commit_logged}
 use Rattle.pool_journal.specs.Failing.{refusal_of}
 use Rattle.pool_journal.specs.Sessions.{SessionCall, Part, called_as, calls, IsClosed}
 use Rattle.pool_journal.specs.Slots.{Slot, Shown}
+use Rattle.pool_journal.specs.Steps.{Start}
+use Rattle.pool_journal.specs.Witnessed.{WasStable}
 use Rattle.pool_journal.specs.declared.failure.Failure.{Failure}
 use Rattle.session_answers.specs.Answers.{Finishes, EndsLive, TellsCommit}
 use Rattle.session_answers.specs.Asking.{both, gives_answer, gives_back, gives_commit, gives_rolled_back, gives_row, gives_rows, is_answered, is_asked, is_logged, is_rolling}
@@ -85,6 +87,10 @@ pub record CarriesOn (old : Part) (t : Told) (new : Part) : Type 0 where
 -- a commit that was told was seen to be stable
 abbrev pub IsSeenBy : ℕ → Told → Type 0
 IsSeenBy stable t = (n : ℕ) → t ≡ told.Committed n → n ≤ stable
+
+-- the log was stable up to the record of a commit that was told
+abbrev pub IsStableAt : Start → Shelves → Told → Type 0
+IsStableAt start row t = (n : ℕ) → t ≡ told.Committed n → WasStable start row n
 
 -- nothing more is told of the call: a line was told of it that doesn't answer it, or a crash has cut it off
 pub record IsLost (old new : Part) : Type 0 where

@@ -1,3 +1,4 @@
+pub mod Entered
 pub mod Outages
 -- what a crate above names of those below
 pub use Rattle.session_answers.specs.node_laws as node_laws

@@ -1,22 +1,29 @@
 //! Where calls are entered: the transaction component under its lock, and the board.
-ghost use Rattle.std.specs.Prelude.{◌≡◌, ◌≤◌, true, false, ℕ, Some, None, IfSome, IfNone};
+ghost use Rattle.std.specs.Prelude.{◌≡◌, ◌≤◌, ◌++◌, ◌∷◌, true, false, ℕ, [], Some, None, IfSome, IfNone};
 ghost use Rattle.marks.specs.Seen.{reader};
 ghost use Rattle.session_answers.specs.node_laws.specs.declared.event.Event.{Event};
 ghost use Rattle.session_answers.specs.node_laws.specs.declared.event.Event.TheVariants as event;
 ghost use Rattle.session_answers.specs.node_laws.specs.Halves.{of_tc};
-ghost use Rattle.session_answers.specs.pool_journal.specs.Desks.{delivers};
+ghost use Rattle.session_answers.specs.pool_journal.specs.Adding.{WasSent};
+ghost use Rattle.session_answers.specs.pool_journal.specs.Commands.{is_command};
+ghost use Rattle.session_answers.specs.pool_journal.specs.Desks.{TcFound, delivers};
+ghost use Rattle.session_answers.specs.pool_journal.specs.Forcing.{Forces};
 ghost use Rattle.session_answers.specs.pool_journal.specs.Sessions.{IsClosed};
-ghost use Rattle.session_answers.specs.pool_journal.specs.Slots.{Shown};
-ghost use Rattle.session_answers.specs.pool_journal.specs.Witnessed.{IsEntered, LeftBytes, TcRan};
+ghost use Rattle.session_answers.specs.pool_journal.specs.Slots.{Slot, Shown};
+ghost use Rattle.session_answers.specs.pool_journal.specs.Steps.{replies};
+ghost use Rattle.session_answers.specs.pool_journal.specs.Witnessed.{LeftBytes, TcRan, WasStable};
 ghost use Rattle.session_answers.specs.Answers.{BeginsAlone, CallsUntold, IsUnasked, IsSecond};
 ghost use Rattle.session_answers.specs.Asking.{event_of};
+ghost use Rattle.shared_node.specs.Entered.{IsEntered};
 
 use crate::board::Board;
 use boxcar::Pushed;
 use marks::Seat;
 use session_answers::Ask;
 use session_answers::node_laws::Event;
-use session_answers::pool_journal::{Caller, Entry, KeptOut, Naming, Next, OutForm, TcDesk, hold};
+use session_answers::pool_journal::{
+    Caller, Entry, KeptOut, Naming, Next, Operator, OutForm, TcDesk, hold,
+};
 use stable::CrashLog;
 use std::sync::{Mutex, Wait};
 
@@ -47,10 +54,11 @@ impl<J: Naming, D: CrashLog> Entrance<J, D> {
         }
     }
 
-    /// An event of the transaction component that is no call, and its entry.
+    /// An event of the transaction component that is no call and no command, and its entry.
     pub fn enter<R: Wait>(&self, rt: &R, event: Event) -> Pushed<Entry>
         requires tc { of_tc event ≡ true }
         requires plain { delivers event ≡ false }
+        requires mild { is_command event ≡ false }
         ensures shown { Shown J.entries result }
         ensures event { result.value.step.value.event ≡ event }
     {
@@ -99,7 +107,7 @@ impl<J: Naming, D: CrashLog> Entrance<J, D> {
 
     /// Makes the log stable; says how much is stable, and announces what is answered: the entries of both.
     pub(crate) fn force<R: Wait>(&self, rt: &R) -> (Option<Pushed<Entry>>, Option<Pushed<Entry>>)
-        ensures forced { IsEntered J.entries event.Force }
+        ensures forced { (old : TcFound) × (new : TcFound) × Forces J.start J.entries old result.0 result.1 new }
         ensures tell { IfSome result.0 (λ token. Shown J.entries token) }
         ensures low { IfSome result.1 (λ token. Shown J.entries token) }
     {
@@ -113,6 +121,7 @@ impl<J: Naming, D: CrashLog> Entrance<J, D> {
         requires seat { seat.old.marks ≡ J.marks }
         ensures seat { seat.new.marks ≡ J.marks }
         ensures stable { number ≤ seat.new.stable }
+        ensures stood { WasStable J.start J.entries number }
     {
         for _ in rt.forever() {
             let stable = hold(rt, &self.tc).teach(&self.board.hall, seat);
@@ -128,6 +137,7 @@ impl<J: Naming, D: CrashLog> Entrance<J, D> {
     pub(crate) fn take<R: Wait>(&self, rt: &R, number: u64) -> Option<Pushed<Entry>>
         ensures shown { IfSome result (λ token. Shown J.entries token) }
         ensures event { IfSome result (λ token. token.value.step.value.event ≡ event.Reply number) }
+        ensures sent { IfSome result (WasSent replies number) }
     {
         hold(rt, &self.tc)
             .take(rt, &self.board.hall, &self.board.journal, number)
@@ -135,21 +145,39 @@ impl<J: Naming, D: CrashLog> Entrance<J, D> {
     }
 
     /// What is to be done next to bring the component up, beside a data component that runs this session.
-    pub(crate) fn next<R: Wait>(&self, rt: &R, session: u64) -> Next
-        ensures { result ≡ Next.Nothing → TcRan J.start J.entries session }
+    pub(crate) fn next<R: Wait>(&self, rt: &R, operator: &mut Operator<J>, session: u64) -> Next
+        ensures operator { operator.new ≡ operator.old }
+        ensures ran { result ≡ Next.Nothing → TcRan J.start J.entries operator.old session }
     {
-        let desk = self.tc.lock(rt);
+        let Entrance { board, tc } = self;
+        let mut desk = tc.lock(rt);
+        desk.look(rt, board.hall.row(), &board.journal, operator);
         desk.kept();
         desk.next(session)
     }
 
     /// The component crashes, and keeps so many bytes of what isn't stable of its log.
-    pub fn crash<R: Wait>(&self, rt: &R, kept: u64)
-        ensures { LeftBytes J.start J.entries kept }
+    pub fn crash<R: Wait>(&self, rt: &R, kept: u64, operator: &mut Operator<J>)
+        ensures { (entry : Slot) × LeftBytes J.start J.entries kept operator.old entry operator.new }
     {
-        self.tc
-            .lock(rt)
-            .crash(rt, &self.board.hall, &self.board.journal, kept);
-        self.board.wake();
+        let Entrance { board, tc } = self;
+        tc.lock(rt)
+            .crash(rt, &board.hall, &board.journal, kept, operator);
+        board.wake();
+    }
+
+    /// The call of this number, from now on, of the device of the component's log fails.
+    pub fn fail<R: Wait>(&self, rt: &R, call: u64, operator: &mut Operator<J>)
+        ensures given { operator.new ≡ operator.old ++ event.FailTc call ∷ [] }
+        ensures entered { IsEntered J.entries (event.FailTc call) }
+    {
+        let Entrance { board, tc } = self;
+        tc.lock(rt).command(
+            rt,
+            &board.hall,
+            &board.journal,
+            Event::FailTc { call },
+            operator,
+        );
     }
 }

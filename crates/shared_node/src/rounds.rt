@@ -2,6 +2,7 @@
 ghost use Rattle.std.specs.Prelude.{◌≡◌, true, false, IfOk, IfErr, OnOk, IfSome};
 ghost use Rattle.session_answers.specs.node_laws.specs.Halves.{of_tc};
 ghost use Rattle.shared_node.specs.Outages.{IsOutage};
+ghost use Rattle.session_answers.specs.pool_journal.specs.Commands.{is_command};
 ghost use Rattle.session_answers.specs.pool_journal.specs.Desks.{delivers};
 ghost use Rattle.session_answers.specs.pool_journal.specs.Witnessed.{DcRan, WereUp};
 
@@ -9,7 +10,7 @@ use crate::shared::Shared;
 use codec::{Reply, Request};
 use record_key::Refusal;
 use session_answers::node_laws::{Event, Out};
-use session_answers::pool_journal::{Gate, KeptOut, Naming, Next, OutForm};
+use session_answers::pool_journal::{Gate, KeptOut, Naming, Next, Operator, OutForm};
 use stable::{CrashLog, CrashPages};
 use std::sync::Wait;
 
@@ -38,12 +39,13 @@ fn passed(out: &KeptOut) -> Result<bool, Refusal>
 impl<J: Naming, G, D: CrashLog, P: CrashPages> Shared<J, G, D, P> {
     /// Brings both components up, in one session, and undoes who was lost. Refused NoMemory, Device, NumbersSpent; what
     /// was done by then stands.
-    pub fn bring_up<R: Wait>(&self, rt: &R) -> Result<(), Refusal>
-        ensures up { OnOk result (WereUp J.start J.entries) }
+    pub fn bring_up<R: Wait>(&self, rt: &R, operator: &mut Operator<J>) -> Result<(), Refusal>
+        ensures operator { operator.new ≡ operator.old }
+        ensures up { OnOk result (WereUp J.start J.entries operator.old) }
         ensures refused { IfErr result IsOutage }
     {
         for _ in rt.forever() {
-            if !self.round(rt)? {
+            if !self.round(rt, operator)? {
                 self.entrance.board.brought_up(rt);
                 return Ok(());
             }
@@ -52,14 +54,15 @@ impl<J: Naming, G, D: CrashLog, P: CrashPages> Shared<J, G, D, P> {
     }
 
     // One round, if one is left.
-    fn round<R: Wait>(&self, rt: &R) -> Result<bool, Refusal>
-        ensures up { IfOk result (λ left. left ≡ false → WereUp J.start J.entries) }
+    fn round<R: Wait>(&self, rt: &R, operator: &mut Operator<J>) -> Result<bool, Refusal>
+        ensures operator { operator.new ≡ operator.old }
+        ensures up { IfOk result (λ left. left ≡ false → WereUp J.start J.entries operator.old) }
         ensures refused { IfErr result IsOutage }
     {
-        let Some(session) = self.session(rt) else {
+        let Some(session) = self.session(rt, operator) else {
             return self.restart_dc(rt);
         };
-        match self.entrance.next(rt, session) {
+        match self.entrance.next(rt, operator, session) {
             Next::Nothing => Ok(false),
             Next::Restart => self.pass(rt, Event::RestartTc),
             Next::Lose => self.pass(rt, Event::Recover),
@@ -70,10 +73,13 @@ impl<J: Naming, G, D: CrashLog, P: CrashPages> Shared<J, G, D, P> {
     }
 
     // The session that the data component runs, where it isn't down.
-    fn session<R: Wait>(&self, rt: &R) -> Option<u64>
-        ensures { IfSome result (DcRan J.start J.entries) }
+    fn session<R: Wait>(&self, rt: &R, operator: &mut Operator<J>) -> Option<u64>
+        ensures operator { operator.new ≡ operator.old }
+        ensures ran { IfSome result (DcRan J.start J.entries operator.old) }
     {
-        let desk = self.dc.lock(rt);
+        let board = &self.entrance.board;
+        let mut desk = self.dc.lock(rt);
+        desk.look(rt, board.hall.row(), &board.journal, operator);
         desk.kept();
         desk.session().ok()
     }
@@ -95,6 +101,7 @@ impl<J: Naming, G, D: CrashLog, P: CrashPages> Shared<J, G, D, P> {
     fn pass<R: Wait>(&self, rt: &R, event: Event) -> Result<bool, Refusal>
         requires tc { of_tc event ≡ true }
         requires plain { delivers event ≡ false }
+        requires mild { is_command event ≡ false }
         ensures refused { IfErr result IsOutage }
         ensures goes_on { IfOk result (λ left. left ≡ true) }
     {
@@ -106,6 +113,7 @@ impl<J: Naming, G, D: CrashLog, P: CrashPages> Shared<J, G, D, P> {
     fn exchange_up<R: Wait>(&self, rt: &R, event: Event) -> Result<bool, Refusal>
         requires tc { of_tc event ≡ true }
         requires plain { delivers event ≡ false }
+        requires mild { is_command event ≡ false }
         ensures refused { IfErr result IsOutage }
         ensures goes_on { IfOk result (λ left. left ≡ true) }
     {

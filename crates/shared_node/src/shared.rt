@@ -1,11 +1,11 @@
 //! What the threads share, and what they do under its locks.
+ghost use Rattle.std.specs.Prelude.{◌≡◌, ◌++◌, ◌∷◌, []};
 ghost use Rattle.session_answers.specs.node_laws.specs.declared.event.Event.TheVariants as event;
-ghost use Rattle.session_answers.specs.pool_journal.specs.Witnessed.{IsEntered};
+ghost use Rattle.shared_node.specs.Entered.{IsEntered};
 
 use crate::board::Board;
 use crate::entrance::Entrance;
-use session_answers::node_laws::Event;
-use session_answers::pool_journal::{DcDesk, Hall, Journal, Naming, TcDesk};
+use session_answers::pool_journal::{DcDesk, Hall, Journal, Naming, Operator, TcDesk};
 use stable::{CrashLog, CrashPages};
 use std::sync::{Mutex, Wait};
 
@@ -45,17 +45,14 @@ impl<J: Naming, G, D: CrashLog, P: CrashPages> Shared<J, G, D, P> {
     }
 
     /// The data component crashes. Nothing is kept that isn't stable.
-    pub fn crash_dc<R: Wait>(&self, rt: &R)
-        ensures { IsEntered J.entries (event.CrashDc 0 0) }
+    pub fn crash_dc<R: Wait>(&self, rt: &R, operator: &mut Operator<J>)
+        ensures given { operator.new ≡ operator.old ++ event.CrashDc 0 0 ∷ [] }
+        ensures entered { IsEntered J.entries (event.CrashDc 0 0) }
     {
         let board = &self.entrance.board;
-        let event = Event::CrashDc {
-            frames: 0,
-            bytes: 0,
-        };
         self.dc
             .lock(rt)
-            .turn(rt, board.hall.row(), &board.journal, event);
+            .crash(rt, board.hall.row(), &board.journal, operator);
         board.wake();
     }
 }

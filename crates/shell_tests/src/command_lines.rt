@@ -44,19 +44,21 @@ fn put_task(text: &mut String, task: Task<'_>) -> Result<(), Refusal> {
             reads_only,
             creates,
             strict,
+            interactive,
         } => {
             put_run(text, continues, store)?;
             put_flag(text, " read only", reads_only)?;
             put_flag(text, " created", creates)?;
-            put_flag(text, " strict", strict)
+            put_flag(text, " strict", strict)?;
+            put_flag(text, " interactive", interactive)
         }
-        Task::Check { store } => {
-            text.push_str("check")?;
-            put_store(text, store)
-        }
-        Task::Compact { store } => {
-            text.push_str("compact")?;
-            put_store(text, store)
+        Task::Check { store } => put_stored(text, "check", store),
+        Task::Compact { store } => put_stored(text, "compact", store),
+        Task::Dump { store } => put_stored(text, "dump", store),
+        Task::Stat { store } => put_stored(text, "stat", store),
+        Task::Load { store, creates } => {
+            put_stored(text, "load", store)?;
+            put_flag(text, " created", creates)
         }
         Task::Pool { sessions, rounds } => Ok(write!(text, "pool {sessions} {rounds}")?),
         Task::Explain { at } => put_numbered(text, "explain", at),
@@ -75,6 +77,12 @@ fn put_flag(text: &mut String, flag: &str, is_set: bool) -> Result<(), Refusal> 
         text.push_str(flag)?;
     }
     Ok(())
+}
+
+/// A task that may have a store.
+fn put_stored(text: &mut String, task: &str, store: Option<&str>) -> Result<(), Refusal> {
+    text.push_str(task)?;
+    put_store(text, store)
 }
 
 fn put_store(text: &mut String, store: Option<&str>) -> Result<(), Refusal> {

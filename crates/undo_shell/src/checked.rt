@@ -1,13 +1,16 @@
 //! A store is looked at: whether it can be opened, and what its log has.
 ghost use Rattle.std.specs.Prelude.{◌≡◌, [], IfOk};
 
-use crate::stored::{Node, print_faulty, print_unopened, print_unread, unsettled_on};
+use crate::progress::Progress;
+use crate::stored::{Node, print_unopened, print_unread, print_wanting, unsettled_on};
+use crate::terminals::Terminals;
 use file_devices::{FileLog, NoPages, StoreError, count_blocks, read_store};
 use history::Record;
 use node_shell::{DONE, FAILED};
 use node_store::{Cause, renew};
 use record_key::Refusal;
 use std::fs::{File, Files};
+use std::time::Clock;
 use world::bring_up;
 
 /// What a store has.
@@ -24,15 +27,15 @@ struct Contents {
 }
 
 /// Prints what the log of the store in this folder has, or why it can't be opened. Nothing of the store is changed.
-pub fn check<R>(rt: &R, folder: Option<&str>) -> u8
+pub fn check<R>(rt: &R, terminals: Terminals, folder: Option<&str>) -> u8
 where
-    R: Print + Eprint + AllocGlobal + Files<File = File> + Copy,
+    R: Print + Eprint + AllocGlobal + Files<File = File> + Clock + Copy,
 {
     let Some(folder) = folder else {
-        return print_faulty(rt, "check wants a store: --store FOLDER");
+        return print_wanting(rt, "check");
     };
     match read(rt, folder) {
-        Ok((log, blocks)) => check_log(rt, folder, log, blocks),
+        Ok((log, blocks)) => check_log(rt, terminals, folder, log, blocks),
         Err(error) => print_unopened(rt, folder, &error),
     }
 }
@@ -48,13 +51,13 @@ where
     Ok((log, blocks))
 }
 
-fn check_log<R>(rt: &R, folder: &str, log: FileLog, blocks: u64) -> u8
+fn check_log<R>(rt: &R, terminals: Terminals, folder: &str, log: FileLog, blocks: u64) -> u8
 where
-    R: Print + Eprint + AllocGlobal + Files<File = File>,
+    R: Print + Eprint + AllocGlobal + Files<File = File> + Clock,
     requires { log.pending ≡ [] }
 {
     match unsettled_on(rt, folder, log) {
-        Ok(mut node) => match look(rt, &mut node) {
+        Ok(mut node) => match look(rt, terminals, &mut node) {
             Ok(contents) => print_contents(rt, blocks, &contents),
             Err(refusal) => print_unread(rt, folder, Cause::Refused(refusal)),
         },
@@ -63,10 +66,16 @@ where
 }
 
 /// What the node has that was opened on the log, and what is left of that once it is at rest.
-fn look<R: AllocGlobal>(rt: &R, node: &mut Node) -> Result<Contents, Refusal> {
+fn look<R>(rt: &R, terminals: Terminals, node: &mut Node) -> Result<Contents, Refusal>
+where
+    R: Eprint + AllocGlobal + Clock,
+{
     let records = node.records()?;
     let bytes = node.stable_bytes()?.len() as u64;
-    let (committed, open) = ends(node, records)?;
+    let mut progress = Progress::new(rt, terminals.errors);
+    let ends = ends(rt, node, records, &mut progress);
+    progress.end(rt);
+    let (committed, open) = ends?;
     bring_up(node, &mut Vec::new(rt.alloc()))?;
     Ok(Contents {
         records,
@@ -79,7 +88,12 @@ fn look<R: AllocGlobal>(rt: &R, node: &mut Node) -> Result<Contents, Refusal> {
 }
 
 /// How many transactions have committed, and how many have neither done so nor ended.
-fn ends(node: &Node, records: u64) -> Result<(u64, u64), Refusal> {
+fn ends<R: Eprint + Clock>(
+    rt: &R,
+    node: &Node,
+    records: u64,
+    progress: &mut Progress,
+) -> Result<(u64, u64), Refusal> {
     let mut begun = 0u64;
     let mut committed = 0u64;
     let mut ended = 0u64;
@@ -90,6 +104,7 @@ fn ends(node: &Node, records: u64) -> Result<(u64, u64), Refusal> {
             Some(Record::End { .. }) => ended = ended.saturating_add(1),
             _ => {}
         }
+        progress.tell(rt, number, "records");
     }
     Ok((
         committed,

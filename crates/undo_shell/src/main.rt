@@ -8,14 +8,24 @@
 ghost use Rattle.std.specs.Prelude.{◌<◌};
 
 mod checked;
+mod conversing;
+mod dumped;
+mod loaded;
+mod measured;
+mod progress;
 mod refusals;
 mod script;
 mod stored;
+mod terminals;
 
 use checked::check;
 use clap::Error;
 use clap::error::ErrorKind;
 use command_line::{Task, choose};
+use conversing::converse_in_memory;
+use dumped::dump;
+use loaded::load;
+use measured::measure;
 use node_pictures::draw;
 use node_shell::{DONE, FAILED, FAULT, Stopping, refusal_of, refuse, run};
 use node_texts::explain;
@@ -29,12 +39,14 @@ use std::io::{BufWriter, Write};
 use std::process::ExitCode;
 use std::sync::Wait;
 use std::thread::Threads;
+use std::time::Clock;
 use std::{env, io};
-use stored::{Opening, compact, finish, print_faulty, run_stored};
+use stored::{Opening, compact, finish, print_faulty, print_wanting, run_stored};
+use terminals::Terminals;
 
 fn main(rt: HostRuntime) -> ExitCode {
     let status = match arguments(&rt) {
-        Ok(words) => start(rt, words.as_slice()),
+        Ok(words) => start(rt, Terminals::of(&rt), words.as_slice()),
         Err(error) => print_unread_words(&rt, &error),
     };
     ExitCode::from(status)
@@ -57,29 +69,67 @@ fn arguments(rt: &HostRuntime) -> io::Result<Vec<String>> {
 }
 
 /// Does what the command line asks for. Gives the exit status.
-fn start<R>(rt: R, words: &[String]) -> u8
+fn start<R>(rt: R, terminals: Terminals, words: &[String]) -> u8
 where
-    R: Input + Print + Eprint + AllocGlobal + Files<File = File> + Threads + Wait,
+    R: Input + Print + Eprint + AllocGlobal + Files<File = File> + Clock + Threads + Wait,
     R: Copy + Send + Sync + 'static,
 {
     match choose(rt.alloc(), words) {
         Ok(
             Task::Run {
                 continues,
-                store: Some(folder),
+                store,
                 reads_only,
                 creates,
                 strict,
+                interactive,
             },
-        ) => match Opening::of(reads_only, creates) {
-            Some(opening) => run_stored(&rt, Manner { continues, strict }, opening, folder),
-            None => print_faulty(&rt, "--read-only makes no store, and --create does"),
-        },
-        Ok(Task::Compact { store }) => compact(&rt, store),
-        Ok(Task::Check { store }) => check(&rt, store),
+        ) => {
+            let manner = Manner {
+                continues,
+                strict,
+                is_interactive: interactive | terminals.input,
+                prompts: terminals.input & terminals.output,
+            };
+            run_task(&rt, manner, store, reads_only, creates)
+        }
         Ok(Task::Pool { sessions, rounds }) => play(rt, sessions, rounds),
-        Ok(task) => perform(&rt, task),
+        Ok(task) => perform(&rt, terminals, task),
         Err(fault) => print_fault(&rt, &fault),
+    }
+}
+
+/// Runs a script, on a store where one is named.
+fn run_task<R>(rt: &R, manner: Manner, store: Option<&str>, reads_only: bool, creates: bool) -> u8
+where
+    R: Input + Print + Eprint + AllocGlobal + Files<File = File> + Copy,
+{
+    let Some(opening) = Opening::of(reads_only, creates) else {
+        return print_faulty(rt, "--read-only makes no store, and --create does");
+    };
+    match (store, opening) {
+        (Some(folder), opening) => run_stored(rt, manner, opening, folder),
+        (None, Opening::Making) => print_wanting(rt, "--create"),
+        (None, Opening::Reading) => print_wanting(rt, "--read-only"),
+        (None, Opening::Writing) if manner.is_interactive => converse_in_memory(rt, manner),
+        (None, Opening::Writing) => run_in_memory(rt, manner),
+    }
+}
+
+/// Does what is asked for with a store, or with a script that isn't run.
+fn perform<R>(rt: &R, terminals: Terminals, task: Task<'_>) -> u8
+where
+    R: Input + Print + Eprint + AllocGlobal + Files<File = File> + Clock + Copy,
+{
+    match task {
+        Task::Compact { store } => compact(rt, store),
+        Task::Check { store } => check(rt, terminals, store),
+        Task::Dump { store } => dump(rt, terminals, store),
+        Task::Load { store, creates } => load(rt, terminals, store, creates),
+        Task::Stat { store } => measure(rt, store),
+        Task::Explain { at } => tell_script(rt, Telling::Explained { at }),
+        Task::Draw { last } => tell_script(rt, Telling::Drawn { last }),
+        Task::Run { .. } | Task::Pool { .. } => FAULT,
     }
 }
 
@@ -97,9 +147,9 @@ where
     finish(&mut writer, status)
 }
 
-/// Writes the text of a script's task that has no store to standard output. It is gathered and written in large pieces,
-/// and nothing of it after a write that failed.
-fn perform<R>(rt: &R, task: Task<'_>) -> u8
+/// Runs a script on a new node in memory. Its text is gathered and written in large pieces, and nothing of it after a
+/// write that failed.
+fn run_in_memory<R>(rt: &R, manner: Manner) -> u8
 where
     R: Input + Print + Eprint + AllocGlobal,
 {
@@ -110,40 +160,46 @@ where
     let Ok(writer) = BufWriter::new(rt.alloc(), Stopping::new(io::writer(rt))) else {
         return refuse(&mut io::writer(rt), Refusal::NoMemory, FAILED);
     };
-    perform_on(rt, task, &script, writer)
-}
-
-fn perform_on<R, W>(rt: &R, task: Task<'_>, script: &[u8], writer: W) -> u8
-where
-    R: Eprint + AllocGlobal,
-    W: Write + Drop,
-{
-    let alloc = rt.alloc();
-    let mut reader = script;
     let mut text = Counting::new(writer);
-    let status = match task {
-        Task::Run { continues, .. } => run(alloc, continues, &mut reader, &mut text),
-        Task::Explain { at } => explain(alloc, at, &mut reader, &mut text),
-        Task::Draw { last } => draw(alloc, last, &mut reader, &mut text),
-        Task::Pool { .. } | Task::Compact { .. } | Task::Check { .. } => FAULT,
-    };
+    let status = run(
+        rt.alloc(),
+        manner.continues,
+        &mut script.as_slice(),
+        &mut text,
+    );
     let status = finish(&mut text, status);
-    tell(rt, task, script, &text, status)
+    tell_run(rt, manner, &script, &text, status)
 }
 
-/// Prints to standard error what is to be said beside the text of a script's task. Gives the exit status.
-fn tell<R, W>(rt: &R, task: Task<'_>, script: &[u8], text: &Counting<W>, status: u8) -> u8
+/// How a script is told of that isn't run.
+#[derive(Clone, Copy)]
+enum Telling {
+    Explained { at: Option<u64> },
+    Drawn { last: Option<u64> },
+}
+
+/// Explains or draws a script. The text is written as that of a run in memory.
+fn tell_script<R>(rt: &R, telling: Telling) -> u8
 where
-    R: Eprint + AllocGlobal,
+    R: Input + Print + Eprint + AllocGlobal,
 {
-    match task {
-        Task::Run {
-            continues,
-            strict,
-            ..
-        } => tell_run(rt, Manner { continues, strict }, script, text, status),
-        Task::Explain { at } => tell_line(rt, script, at, text, tell_fault(rt, script, status)),
-        _ => tell_fault(rt, script, status),
+    let script = match read_script(rt) {
+        Ok(script) => script,
+        Err(refusal) => return refuse(&mut io::writer(rt), refusal, FAILED),
+    };
+    let Ok(writer) = BufWriter::new(rt.alloc(), Stopping::new(io::writer(rt))) else {
+        return refuse(&mut io::writer(rt), Refusal::NoMemory, FAILED);
+    };
+    let mut text = Counting::new(writer);
+    let mut reader = script.as_slice();
+    let status = match telling {
+        Telling::Explained { at } => explain(rt.alloc(), at, &mut reader, &mut text),
+        Telling::Drawn { last } => draw(rt.alloc(), last, &mut reader, &mut text),
+    };
+    let status = tell_fault(rt, &script, finish(&mut text, status));
+    match telling {
+        Telling::Explained { at } => tell_line(rt, &script, at, &text, status),
+        Telling::Drawn { .. } => status,
     }
 }
 

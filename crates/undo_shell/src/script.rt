@@ -8,6 +8,10 @@ use std::io::Read;
 /// The exit status of a strict run that came to its end, where a line was refused.
 const REFUSED: u8 = 4;
 
+/// What is told of a line that was refused NotConnected.
+pub const UNCONNECTED: &str =
+    "undo_shell: NotConnected: a component is down, or the two have no session yet: `settle` before the line restarts and connects them";
+
 /// How a script is run.
 #[derive(Clone, Copy)]
 pub struct Manner {
@@ -15,6 +19,10 @@ pub struct Manner {
     pub continues: bool,
     /// It is told how many lines were refused.
     pub strict: bool,
+    /// Each line is answered before the next is read.
+    pub is_interactive: bool,
+    /// And asked for.
+    pub prompts: bool,
 }
 
 /// All of standard input.
@@ -110,15 +118,11 @@ fn tell_unconnected<R: Eprint, W>(rt: &R, text: &Counting<W>, status: u8) -> u8 
     if !text.is_unconnected() {
         return status;
     }
-    told(
-        eprintln!(rt;
-            "undo_shell: NotConnected: a component is down, or the two have no session yet: `settle` before the line restarts and connects them"
-        ),
-        status,
-    )
+    told(eprintln!(rt; "{UNCONNECTED}"), status)
 }
 
-fn tell_refused<R: Eprint>(rt: &R, refused: u64, status: u8) -> u8 {
+/// Prints to standard error how many lines were refused. Gives the exit status of a strict run that ended so.
+pub fn tell_refused<R: Eprint>(rt: &R, refused: u64, status: u8) -> u8 {
     let ended = if status == DONE && refused > 0 {
         REFUSED
     } else {
@@ -133,8 +137,8 @@ fn tell_refused<R: Eprint>(rt: &R, refused: u64, status: u8) -> u8 {
     }
 }
 
-/// The exit status of a run of which something was told.
-fn told(written: std::io::Result<()>, status: u8) -> u8 {
+/// The exit status of what was told of.
+pub fn told(written: std::io::Result<()>, status: u8) -> u8 {
     match written {
         Ok(()) => status,
         Err(_) => FAILED,

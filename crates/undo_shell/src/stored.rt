@@ -1,13 +1,14 @@
 //! What is done with a store: a script is run on it, or its log is written anew.
 ghost use Rattle.std.specs.Prelude.{◌≡◌, [], IfOk};
 
+use crate::conversing::converse;
 use crate::refusals::Counting;
 use crate::script::{Manner, read_script, tell_run};
 use file_devices::{
     FileLog, FirstFailure, NoPages, StoreError, StoreFile, Torn, Tried, open_store, place_in_file,
     read_store, reopen_store, replace_log,
 };
-use node_shell::{DONE, FAILED, FAULT, Stopping, refuse, run_on};
+use node_shell::{DONE, FAILED, FAULT, Shell, Stopping, refuse, run_on};
 use node_store::{Cause, open, renew};
 use record_key::Refusal;
 use std::fs::{File, Files};
@@ -53,7 +54,7 @@ where
 }
 
 /// The log of the store in this folder.
-fn opened<R>(rt: &R, folder: &str, opening: Opening) -> Result<FileLog, StoreError>
+pub fn opened<R>(rt: &R, folder: &str, opening: Opening) -> Result<FileLog, StoreError>
 where
     R: AllocGlobal + Files<File = File> + Copy,
     ensures { IfOk result (λ log. log.pending ≡ []) }
@@ -71,7 +72,7 @@ where
     R: Print + Eprint + AllocGlobal + Files<File = File> + Copy,
 {
     let Some(folder) = folder else {
-        return print_faulty(rt, "compact wants a store: --store FOLDER");
+        return print_wanting(rt, "compact");
     };
     match reopen_store(rt, folder) {
         Ok(log) => compact_log(rt, folder, log),
@@ -92,6 +93,20 @@ where
             print_failure(rt, folder, failure, status)
         }
         Err(status) => status,
+    }
+}
+
+/// A node on the log of the store in this folder, which is only read, for a subcommand of this name. Else the exit status.
+pub fn node_to_read<R>(rt: &R, folder: Option<&str>, name: &str) -> Result<Box<Node>, u8>
+where
+    R: Eprint + AllocGlobal + Files<File = File> + Copy,
+{
+    let Some(folder) = folder else {
+        return Err(print_wanting(rt, name));
+    };
+    match read_store(rt, folder) {
+        Ok(log) => node_on(rt, folder, log),
+        Err(error) => Err(print_unopened(rt, folder, &error)),
     }
 }
 
@@ -133,9 +148,21 @@ where
     }
 }
 
-/// Runs a script on a node that a store has. Each line of its text is written as soon as it ends: a client that reads of
-/// a commit has it whatever becomes of the process, and one that has it should learn so before the process is gone.
+/// Runs a script on a node that a store has, line by line as it is read or all of it.
 fn run_world<R>(rt: &R, manner: Manner, world: Node) -> u8
+where
+    R: Input + Print + Eprint + AllocGlobal,
+{
+    if manner.is_interactive {
+        converse(rt, manner, &mut Shell::on(rt.alloc(), world))
+    } else {
+        run_whole(rt, manner, world)
+    }
+}
+
+/// Runs a whole script on a node that a store has. Each line of its text is written as soon as it ends: a client that reads of
+/// a commit has it whatever becomes of the process, and one that has it should learn so before the process is gone.
+fn run_whole<R>(rt: &R, manner: Manner, world: Node) -> u8
 where
     R: Input + Print + Eprint + AllocGlobal,
 {
@@ -227,8 +254,16 @@ pub fn print_faulty<R: Eprint>(rt: &R, fault: &str) -> u8 {
     }
 }
 
+/// Prints to standard error that a subcommand of this name is told no store.
+pub fn print_wanting<R: Eprint>(rt: &R, name: &str) -> u8 {
+    match eprintln!(rt; "undo_shell: {name} wants a store: --store FOLDER") {
+        Ok(()) => FAULT,
+        Err(_) => FAILED,
+    }
+}
+
 /// Prints to standard error that there is no store, and how one is made.
-fn print_missing<R: Eprint>(rt: &R, folder: &str, opening: Opening) -> u8 {
+pub fn print_missing<R: Eprint>(rt: &R, folder: &str, opening: Opening) -> u8 {
     let error = StoreError::NotAStore;
     let hint = match opening {
         Opening::Writing => "; --create makes one in an empty folder",
@@ -243,7 +278,12 @@ fn print_missing<R: Eprint>(rt: &R, folder: &str, opening: Opening) -> u8 {
 
 /// Prints to standard error what the system first refused of a store's log, if it has refused anything. Gives the exit
 /// status of the run that met it.
-fn print_failure<R: Eprint>(rt: &R, folder: &str, failure: Option<FirstFailure>, status: u8) -> u8 {
+pub fn print_failure<R: Eprint>(
+    rt: &R,
+    folder: &str,
+    failure: Option<FirstFailure>,
+    status: u8,
+) -> u8 {
     match first_of(&failure) {
         Some(error) => match eprintln!(rt; "undo_shell: {folder}: {error}") {
             Ok(()) => status,

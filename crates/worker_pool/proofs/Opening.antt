@@ -10,16 +10,16 @@ use Rattle.worker_pool.specs.Opened.{OpenedView, IsNamed, name_at, tie_name}
 
 -- the ties from a place on have the names from there on
 abbrev pub TiedFrom : (ℕ → ℕ) → ℕ → List ℕ → Type 0
-TiedFrom names from ties = (k n : ℕ) → slice_get ties k ≡ Some n → n ≡ names (from + k + 2)
+TiedFrom names from ties = (k n : ℕ) → slice_get ties k ≡ Some n → n ≡ names (from + k + 3)
 
-pub tied_first : (names : ℕ → ℕ) (from n : ℕ) (ties : List ℕ) → TiedFrom names from (n ∷ ties) → n ≡ names (from + 2)
+pub tied_first : (names : ℕ → ℕ) (from n : ℕ) (ties : List ℕ) → TiedFrom names from (n ∷ ties) → n ≡ names (from + 3)
 tied_first names from n ties tied =
-    let same : from + 0 + 2 ≡ from + 2 = omega arith in tied 0 n refl ∙ ap names same
+    let same : from + 0 + 3 ≡ from + 3 = omega arith in tied 0 n refl ∙ ap names same
 
 pub tied_rest : (names : ℕ → ℕ) (from n : ℕ) (ties : List ℕ) → TiedFrom names from (n ∷ ties)
     → TiedFrom names (from + 1) ties
 tied_rest names from n ties tied k m at =
-    let same : from + suc k + 2 ≡ from + 1 + k + 2 = omega arith in tied (suc k) m at ∙ ap names same
+    let same : from + suc k + 3 ≡ from + 1 + k + 3 = omega arith in tied (suc k) m at ∙ ap names same
 
 -- each of those that are left, one by one
 pub all_first : {A : Type 0} (P : A → Type 0) (xs : List A) (x : A) (rest : List A) → xs ≡ x ∷ rest → All P xs
@@ -69,7 +69,8 @@ named_as o = record {
   marks_are = refl;
   tc = refl;
   dc = refl;
+  own = refl;
   tied = λ k n at.
-      let same : suc (suc k) ≡ k + 2 = omega arith in name_there o.sessions k n at ∙ ap (tie_name o) same;
+      let same : suc (suc (suc k)) ≡ k + 3 = omega arith in name_there o.sessions k n at ∙ ap (tie_name o) same;
   count = refl;
 }

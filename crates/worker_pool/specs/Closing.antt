@@ -1,5 +1,5 @@
 -- What an engine begins with, and what it leaves.
-use Rattle.std.specs.Prelude.{◌≡◌, ℕ, zero, suc, List, [], ◌∷◌, ◌++◌, Option, map}
+use Rattle.std.specs.Prelude.{◌≡◌, ℕ, ◌≤◌, zero, suc, List, [], ◌∷◌, ◌++◌, Option, map}
 use Rattle.std.specs.Global.{Vec}
 use Rattle.record_key.specs.Table.{Bytes}
 use Rattle.atomic_table.specs.Seated.{TableId}
@@ -30,18 +30,26 @@ numbers_named ss = map (λ (s : SessionView). s.number) ss
 abbrev pub numbers_in : {J : Type 0} → List (Sitter J) → List ℕ
 numbers_in ss = map (λ s. s.caller.number) ss
 
-abbrev pub caller_as : SessionView → CallerView
-caller_as s = record { number = s.number; part = s.part }
+-- a session's side of the journal, and how far it has seen the log stable
+abbrev pub seen_of : SessionView → CallerView × ℕ
+seen_of s = (record { number = s.number; part = s.part }, s.seat.stable)
 
-abbrev pub callers_as : List SessionView → List CallerView
-callers_as ss = map caller_as ss
+abbrev pub seen_as : List SessionView → List (CallerView × ℕ)
+seen_as ss = map seen_of ss
 
--- the session's part of these steps has just the calls that it knows of; of one that is unfinished more may have been told
-abbrev pub IsCovered : List Step → CallerView → Type 0
-IsCovered es c = IsGrown c.part (part_of c.number es)
+abbrev pub seen_by : {J : Type 0} → List (Sitter J) → List (CallerView × ℕ)
+seen_by ss = map (λ s. (s.caller, s.seat.stable)) ss
 
-abbrev pub IsKeptBy : List Step → SessionView → Type 0
-IsKeptBy es s = IsGrown s.part (part_of s.number es)
+abbrev pub IsAtMarks : {J : Type 0} → TableId → Sitter J → Type 0
+IsAtMarks marks s = s.seat.marks ≡ marks
+
+-- the session's part of these steps has just the calls that it knows of; of one that is unfinished more may have been
+-- told. And it hasn't seen the log stable further than it is
+abbrev pub IsCovered : List Step → ℕ → CallerView × ℕ → Type 0
+IsCovered es stable s = IsGrown s.0.part (part_of s.0.number es) × (s.1 ≤ stable)
+
+abbrev pub IsKeptBy : List Step → ℕ → SessionView → Type 0
+IsKeptBy es stable s = IsGrown s.part (part_of s.number es) × (s.seat.stable ≤ stable)
 
 -- the journal, and the node at its end with its records
 pub record ClosedView : Type 0 where

@@ -7,26 +7,28 @@ use Rattle.marks.specs.Seen.{Seen, raiser, reader}
 use Rattle.worker_pool.specs.declared.opened.Chair.{Chair}
 use Rattle.pool_sessions.specs.pool_journal.specs.Steps.{Start, IsStart}
 
--- the components with which it begins, its row, its marks, and the names of its ties: of each component, and of each
--- session
+-- the components with which it begins, its row, its marks, and the names of its ties: of each component, of the engine
+-- itself, and of each session
 pub record OpenedView : Type 0 where
   pub start : Start
   pub entries : Shelves
   pub marks : TableId
   pub tc : ℕ
   pub dc : ℕ
+  pub own : ℕ
   pub sessions : List ℕ
 
 abbrev pub ties_of : List Chair → List ℕ
 ties_of chairs = map (λ (c : Chair). c.ends) chairs
 
-abbrev pub opened_as : Start → Shelves → TableId → ℕ → ℕ → List Chair → OpenedView
-opened_as start row marks tc dc chairs = record {
+abbrev pub opened_as : Start → Shelves → TableId → ℕ → ℕ → ℕ → List Chair → OpenedView
+opened_as start row marks tc dc own chairs = record {
   start = start;
   entries = row;
   marks = marks;
   tc = tc;
   dc = dc;
+  own = own;
   sessions = ties_of chairs;
 }
 
@@ -42,7 +44,7 @@ pub record IsOpenedWith (marks : TableId) (seat : Seen) (chairs : List Chair) (s
 
 -- the ties of the sessions have these names
 abbrev pub AreTied : (ℕ → ℕ) → List ℕ → Type 0
-AreTied names sessions = (k n : ℕ) → slice_get sessions k ≡ Some n → n ≡ names (k + 2)
+AreTied names sessions = (k n : ℕ) → slice_get sessions k ≡ Some n → n ≡ names (k + 3)
 
 -- it goes by these names
 pub record IsNamed (o : OpenedView) (start : Start) (entries : Shelves) (marks : TableId) (names : ℕ → ℕ) (sessions : ℕ)
@@ -52,6 +54,7 @@ pub record IsNamed (o : OpenedView) (start : Start) (entries : Shelves) (marks :
   pub marks_are : o.marks ≡ marks
   pub tc : o.tc ≡ names 0
   pub dc : o.dc ≡ names 1
+  pub own : o.own ≡ names 2
   pub tied : AreTied names o.sessions
   pub count : length o.sessions ≡ sessions
 
@@ -61,6 +64,6 @@ name_at [] k = 0
 name_at (n ∷ ns) zero = n
 name_at (n ∷ ns) (suc k) = name_at ns k
 
--- the name of each tie: of the components first, then of the sessions
+-- the name of each tie: of the components first, then of the engine itself, then of the sessions
 abbrev pub tie_name : OpenedView → ℕ → ℕ
-tie_name o k = name_at (o.tc ∷ o.dc ∷ o.sessions) k
+tie_name o k = name_at (o.tc ∷ o.dc ∷ o.own ∷ o.sessions) k

@@ -1,10 +1,13 @@
 //! An engine: the workers over what the threads share.
-ghost use Rattle.std.specs.Prelude.{◌≡◌, ◌<◌, IfOk, IfErr, OnOk, length};
+ghost use Rattle.std.specs.Prelude.{◌≡◌, ◌<◌, ◌++◌, ◌∷◌, [], IfOk, IfErr, OnOk, length};
 ghost use Rattle.std.specs.List.{AllByRecursion};
 ghost use Rattle.world.specs.node_laws.specs.declared.event.Event.TheVariants as event;
 ghost use Rattle.world.specs.node_laws.specs.Node.{dc_side};
+ghost use Rattle.pool_sessions.specs.pool_journal.specs.Commands.{commands};
 ghost use Rattle.pool_sessions.specs.pool_journal.specs.Ending.{IsRowsOf, LeavesNode};
-ghost use Rattle.pool_sessions.specs.pool_journal.specs.Witnessed.{IsEntered, LeftBytes, WereUp};
+ghost use Rattle.pool_sessions.specs.pool_journal.specs.Slots.{Slot};
+ghost use Rattle.pool_sessions.specs.pool_journal.specs.Witnessed.{LeftBytes, WereUp};
+ghost use Rattle.pool_sessions.specs.shared_node.specs.Entered.{IsEntered};
 ghost use Rattle.pool_sessions.specs.shared_node.specs.Outages.{IsOutage};
 ghost use Rattle.worker_pool.specs.Closing.{IsFresh, IsKeptBy, below, numbers_named};
 ghost use Rattle.worker_pool.specs.Opened.{IsNamed};
@@ -12,27 +15,42 @@ ghost use Rattle.worker_pool.specs.Opened.{IsNamed};
 use crate::assembly::share;
 use crate::closed::Closed;
 use crate::opened::Opened;
-use crate::seated::{callers_of, cover, sessions_of};
+use crate::seated::{cover, sessions_of, sitters_of};
 use boxcar::Vec as Row;
 use crossbeam_channel::{Receiver, Sender};
 use pool_sessions::Session;
-use pool_sessions::pool_journal::{DcDesk, Entry, Gate, Journal, Naming, TcDesk};
+use pool_sessions::pool_journal::{DcDesk, Entry, Gate, Journal, Naming, Operator, TcDesk};
 use pool_sessions::shared_node::{Job, Shared, work};
 use record_key::{Key, Refusal, Value};
 use stable::{CrashLog, CrashPages, MemLog, MemPages};
 use std::alloc::{AllocError, Global};
+use std::marker::Model;
 use std::sync::{Arc, Wait};
 use std::thread;
 use std::thread::{JoinHandle, Threads};
 use world::World;
-use world::node_laws::{Event, forgetting_law};
+use world::node_laws::forgetting_law;
 
-/// Workers that serve the sessions' requests. What its sessions are called with is given out with it.
+/// Workers that serve the sessions' requests. What its sessions are called with is given out with it. Contracts see its
+/// commands, in order: the crashes that it made, and the failures that it set.
 pub struct Engine<J: Naming, G, D: CrashLog = MemLog, P: CrashPages = MemPages> {
     alloc: Global,
     shared: Arc<Shared<J, G, D, P>>,
     work: Sender<Job>,
     workers: Vec<JoinHandle<()>>,
+    operator: Operator<J>,
+}
+
+impl<J: Naming, G, D: CrashLog, P: CrashPages> Model for Engine<J, G, D, P> {
+    ghost use Rattle.std.specs.Prelude.{List};
+    ghost use Rattle.std.specs.Coded.{codes};
+    ghost use Rattle.world.specs.node_laws.specs.declared.event.Event.{Event};
+
+    ghost Value = { List Event };
+
+    ghost coded = { Prim.hlevel codes };
+
+    ghost view = { λ e. e.operator };
 }
 
 // A thread that serves requests over what is shared, until nobody sends any more. Refused where no thread can be made.
@@ -82,6 +100,7 @@ fn node_of_desks<J: Naming, D: CrashLog + Drop, P: CrashPages + Drop>(
     requires row { row.now ≡ J.entries }
     ensures same { journal.new ≡ journal.old }
     ensures leaves { IfOk result (λ node. LeavesNode J.start journal.old node.value) }
+    ensures stable { IfOk result (λ node. node.value.tc.stable ≡ tc.state.side.tc.stable) }
 {
     let transactions = tc.into_side(row, journal);
     let data = dc.into_side(row, journal);
@@ -122,12 +141,13 @@ where
         requires named { IsNamed opened J.start J.entries J.marks J.names J.sessions }
         requires some { 0 < workers }
         ensures refused { IfErr result IsOutage }
-        ensures up { OnOk result (WereUp J.start J.entries) }
+        ensures up { OnOk result (WereUp J.start J.entries []) }
+        ensures commands { IfOk result (λ made. made.0 ≡ []) }
         ensures fresh { IfOk result (λ made. AllByRecursion (IsFresh J.marks) made.1.items) }
         ensures numbers { IfOk result (λ made. numbers_named made.1.items ≡ below (length opened.sessions)) }
     {
         let alloc = opened.start.alloc;
-        let (shared, sitters) = share(opened, gate)?;
+        let (shared, sitters, operator) = share(opened, gate)?;
         let (work, jobs) = crossbeam_channel::unbounded(alloc)?;
         let sessions = sessions_of(alloc, sitters, &shared, &work)?;
         let mut engine = Engine {
@@ -135,6 +155,7 @@ where
             shared,
             work,
             workers: Vec::with_capacity(alloc, workers)?,
+            operator,
         };
         match engine.begin(rt, jobs, workers) {
             Ok(()) => Ok((engine, sessions)),
@@ -153,14 +174,22 @@ where
         jobs: Receiver<Job>,
         count: usize,
     ) -> Result<(), Refusal>
+        ensures same { self.new ≡ self.old }
         ensures refused { IfErr result IsOutage }
-        ensures up { OnOk result (WereUp J.start J.entries) }
+        ensures up { OnOk result (WereUp J.start J.entries self.old) }
     {
+        let Engine {
+            alloc: _,
+            shared,
+            work: _,
+            workers,
+            operator,
+        } = self;
         for _ in 0..count {
-            let worker = start(rt, Arc::try_clone(&self.shared)?, jobs.clone()?)?;
-            self.workers.push(worker)?;
+            let worker = start(rt, Arc::try_clone(&*shared)?, jobs.clone()?)?;
+            workers.push(worker)?;
         }
-        self.shared.bring_up(&rt)
+        shared.bring_up(&rt, operator)
     }
 
     // Ends the workers. Every session is gone.
@@ -170,51 +199,57 @@ where
             shared: _,
             work,
             workers,
+            operator: _,
         } = self;
         drop(work);
         join_all(rt, workers);
     }
 
     /// The data component crashes. Nothing is kept that isn't stable.
-    pub fn crash_dc<R: Wait>(&self, rt: &R)
-        ensures { IsEntered J.entries (event.CrashDc 0 0) }
+    pub fn crash_dc<R: Wait>(&mut self, rt: &R)
+        ensures given { self.new ≡ self.old ++ event.CrashDc 0 0 ∷ [] }
+        ensures entered { IsEntered J.entries (event.CrashDc 0 0) }
     {
-        self.shared.crash_dc(rt);
+        self.shared.crash_dc(rt, &mut self.operator);
     }
 
     /// The transaction component crashes, and every session's transaction is cut off. Of what isn't stable of the log so
     /// many bytes are kept, or all of it where it has fewer.
-    pub fn crash_tc<R: Wait>(&self, rt: &R, kept: u64)
-        ensures { LeftBytes J.start J.entries kept }
+    pub fn crash_tc<R: Wait>(&mut self, rt: &R, kept: u64)
+        ensures { (entry : Slot) × LeftBytes J.start J.entries kept self.old entry self.new }
     {
-        self.shared.entrance().crash(rt, kept);
+        self.shared.entrance().crash(rt, kept, &mut self.operator);
     }
 
     /// The call of this number, from now on, of the device of the transaction component's log fails.
-    pub fn fail_tc<R: Wait>(&self, rt: &R, call: u64)
-        ensures { IsEntered J.entries (event.FailTc call) }
+    pub fn fail_tc<R: Wait>(&mut self, rt: &R, call: u64)
+        ensures given { self.new ≡ self.old ++ event.FailTc call ∷ [] }
+        ensures entered { IsEntered J.entries (event.FailTc call) }
     {
-        self.shared.entrance().enter(rt, Event::FailTc { call });
+        self.shared.entrance().fail(rt, call, &mut self.operator);
     }
 
-    /// Brings both components up, in one session, and undoes who was lost. Refused NoMemory, Device, NumbersSpent; what
-    /// was done by then stands.
-    pub fn restart<R: Wait>(&self, rt: &R) -> Result<(), Refusal>
-        ensures up { OnOk result (WereUp J.start J.entries) }
+    /// Brings both components up, in one session, and undoes who was lost: after all commands that were given. Refused
+    /// NoMemory, Device, NumbersSpent; what was done by then stands.
+    pub fn restart<R: Wait>(&mut self, rt: &R) -> Result<(), Refusal>
+        ensures same { self.new ≡ self.old }
+        ensures up { OnOk result (WereUp J.start J.entries self.old) }
         ensures refused { IfErr result IsOutage }
     {
-        self.shared.bring_up(rt)
+        self.shared.bring_up(rt, &mut self.operator)
     }
 
     /// Ends the engine with all of its sessions, and joins every thread: the journal, the node, and where its data component
     /// runs its records. What is unfinished of a session's transaction stays so. Refused NoMemory; the engine is gone then
-    /// too.
+    /// too. Of crashes and of failures that were set the journal has just the engine's commands.
     pub fn close<R: Threads + Wait>(
         self,
         rt: &R,
         sessions: Vec<Session<J, G, D, P>>,
     ) -> Result<Closed<J, D, P>, Refusal>
-        ensures kept { IfOk result (λ closed. AllByRecursion (IsKeptBy closed.steps) sessions.items) }
+        ensures kept { IfOk result (λ closed.
+            AllByRecursion (IsKeptBy closed.steps closed.node.tc.stable) sessions.items) }
+        ensures commands { IfOk result (λ closed. commands closed.steps ≡ self) }
         ensures refused { IfErr result (λ refusal. refusal ≡ Refusal.NoMemory) }
     {
         let Engine {
@@ -222,15 +257,17 @@ where
             shared,
             work,
             workers,
+            mut operator,
         } = self;
         drop(work);
-        let callers = callers_of(alloc, sessions);
+        let sitters = sitters_of(alloc, sessions);
         join_all(rt, workers);
-        let callers = callers?;
-        let (hall, mut journal, tc, dc) = alone(rt, shared).into_parts();
+        let sitters = sitters?;
+        let (hall, mut journal, mut tc, dc) = alone(rt, shared).into_parts();
+        cover(&hall, &mut journal, &mut tc, sitters);
+        journal.review(hall.row(), &mut operator);
         let node = node_of_desks(alloc, tc, dc, hall.row(), &mut journal)?;
         let rows = rows_of(&node)?;
-        cover(&mut journal, hall.row(), callers);
         Closed::new(alloc, hall, journal, rows, node)
     }
 }

@@ -96,7 +96,8 @@ impl Seats {
     }
 }
 
-/// Both components at their start, a row without entries, marks that nobody has raised, and a tie for each component.
+/// Both components at their start, a row without entries, marks that nobody has raised, and a tie for each component and
+/// for the engine itself.
 #[derive(Drop)]
 pub(crate) struct Start<D: CrashLog, P: CrashPages> {
     pub(crate) alloc: Global,
@@ -105,6 +106,7 @@ pub(crate) struct Start<D: CrashLog, P: CrashPages> {
     pub(crate) seat: Seat,
     pub(crate) tc: Ends,
     pub(crate) dc: Ends,
+    pub(crate) own: Ends,
     pub(crate) transactions: TcSide<D>,
     pub(crate) data: DcSide<D, P>,
 }
@@ -130,7 +132,7 @@ impl<D: CrashLog, P: CrashPages> Model for Opened<D, P> {
     ghost coded = { Prim.hlevel (codes, shelves_coded, table_id_coded, table_code, pages_code) };
 
     ghost view = { λ o. opened_as (record { tc = o.start.value.transactions; dc = o.start.value.data })
-        o.start.value.row o.start.value.marks o.start.value.tc o.start.value.dc o.chairs.items };
+        o.start.value.row o.start.value.marks o.start.value.tc o.start.value.dc o.start.value.own o.chairs.items };
 
     ghost invariant = { λ o. IsOpenedWith o.start.value.marks o.start.value.seat o.chairs.items
         (record { tc = o.start.value.transactions; dc = o.start.value.data }) };
@@ -189,6 +191,7 @@ impl<D: CrashLog + Drop, P: CrashPages + Drop> Opened<D, P> {
             seat,
             tc: Ends::open(),
             dc: Ends::open(),
+            own: Ends::open(),
             transactions,
             data,
         };

@@ -1,16 +1,15 @@
 //! The places and callers of an engine's sessions.
 ghost use Rattle.std.specs.Prelude.{◌≡◌, ◌≤◌, [], IfOk, length, vec_len};
 ghost use Rattle.std.specs.List.{AllByRecursion};
-ghost use Rattle.worker_pool.specs.Closing.{IsFresh, IsCovered, IsSeated, below, callers_as, numbers_in, numbers_named};
+ghost use Rattle.worker_pool.specs.Closing.{IsAtMarks, IsCovered, IsFresh, IsSeated, below, numbers_in, numbers_named, seen_as, seen_by};
 ghost use Rattle.pool_sessions.specs.pool_journal.specs.Kept.{PlacesKept};
 ghost use Rattle.worker_pool.specs.Opened.{AreTied, ReadsMarks, ties_of};
 
 use crate::opened::Chair;
-use boxcar::Vec as Row;
 use crossbeam_channel::Sender;
 use marks::Seat;
 use pool_sessions::Session;
-use pool_sessions::pool_journal::{Caller, Entry, Gate, Journal, Naming, Place};
+use pool_sessions::pool_journal::{Caller, Gate, Hall, Journal, Naming, Place, TcDesk};
 use pool_sessions::shared_node::{Job, Shared};
 use stable::{CrashLog, CrashPages};
 use std::alloc::{AllocError, Global};
@@ -85,34 +84,43 @@ where
     Ok(sessions)
 }
 
-/// What each session has seen of the journal.
-pub(crate) fn callers_of<J, G, D, P>(
+/// What each session has seen of the journal, and its seat.
+pub(crate) fn sitters_of<J, G, D, P>(
     alloc: Global,
     sessions: Vec<Session<J, G, D, P>>,
-) -> Result<Vec<Caller<J>>, AllocError>
+) -> Result<Vec<Sitter<J>>, AllocError>
 where
     J: Naming,
     G: Gate + Drop,
     D: CrashLog + Drop,
     P: CrashPages + Drop,
-    ensures callers { IfOk result (λ callers. callers.items ≡ callers_as sessions.items) }
+    ensures sitters { IfOk result (λ sitters. seen_by sitters.items ≡ seen_as sessions.items) }
+    ensures marks { IfOk result (λ sitters. AllByRecursion (IsAtMarks J.marks) sitters.items) }
 {
-    let mut callers = Vec::with_capacity(alloc, sessions.len())?;
+    let mut sitters = Vec::with_capacity(alloc, sessions.len())?;
     for session in sessions {
-        callers.push(session.into_caller())?;
+        let (caller, seat) = session.into_parts();
+        sitters.push(Sitter { caller, seat })?;
     }
-    Ok(callers)
+    Ok(sitters)
 }
 
 /// Each session's part of the journal has just the calls that the session knows of; of one that is unfinished more may have
-/// been told.
-pub(crate) fn cover<J: Naming>(journal: &mut Journal<J>, row: &Row<Entry>, callers: Vec<Caller<J>>)
-    requires row { row.now ≡ J.entries }
-    ensures same { journal.new ≡ journal.old }
-    ensures covered { AllByRecursion (IsCovered journal.old) callers.items }
+/// been told. And no session has seen the log stable further than it is.
+pub(crate) fn cover<J: Naming, D: CrashLog>(
+    hall: &Hall<J>,
+    journal: &mut Journal<J>,
+    tc: &mut TcDesk<J, D>,
+    sitters: Vec<Sitter<J>>,
+)
+    requires marks { AllByRecursion (IsAtMarks J.marks) sitters.items }
+    ensures same { (journal.new ≡ journal.old) × (tc.new.state ≡ tc.old.state) }
+    ensures covered { AllByRecursion (IsCovered journal.old tc.old.state.side.tc.stable) (seen_by sitters.items) }
 {
-    for caller in callers {
-        let mut caller = caller;
-        journal.see(row, &mut caller);
+    for sitter in sitters {
+        let Sitter { caller, seat } = sitter;
+        let (mut caller, mut seat) = (caller, seat);
+        journal.see(hall.row(), &mut caller);
+        tc.teach(hall, &mut seat);
     }
 }

@@ -21,7 +21,7 @@ mod world;
 pub use bringing_up::bring_up;
 pub use driving::drive;
 pub use node_sides::dc_core::{Device, Neighbours};
-pub use node_sides::node_laws::{Event, Out, Round, fallen_law, forgetting_law};
+pub use node_sides::node_laws::{Event, Out, Round, fallen_law, forgetting_law, promises_law};
 pub use node_sides::{DcSide, TcSide};
 pub use settling::settle;
 pub use world::World;

@@ -142,7 +142,7 @@ impl<D: CrashLog, P: CrashPages> World<D, P> {
     /// What holds at every moment, and what the node promises by that: every leaf is honest, also after any crash, a
     /// cached one once what a crash has lost is taken back; no operation is compensated twice, no compensation is
     /// refused, whose Commit record is stable has committed; and where the node is settled, its records are those of a
-    /// plain map, for each list machine that it stands for.
+    /// plain map, by its own log and for each list machine that it stands for.
     pub fn kept(&self)
         ensures kept { IsKept self.now }
         ensures promised { Promises self.now }

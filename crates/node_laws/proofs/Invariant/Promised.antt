@@ -19,7 +19,7 @@ use Rattle.simulation.proofs.Committing.{stable_is_committed}
 use Rattle.simulation.proofs.Viewing.{calm_entries}
 use Rattle.node_laws.specs.Kept.{IsKept}
 use Rattle.node_laws.specs.Node.{NodeView}
-use Rattle.node_laws.specs.Promises.{IsNoneRefused, Promises}
+use Rattle.node_laws.specs.Promises.{IsNoneRefused, Promises, KeptPromises}
 use Rattle.node_laws.specs.Simulation.{clients}
 use Rattle.std.specs.List.{AllByRecursion}
 use Rattle.page.specs.Honest.{IsHonestLeaf}
@@ -28,7 +28,7 @@ use Rattle.node_laws.specs.Source.{Source}
 use Rattle.node_laws.proofs.Invariant.Sources.{live}
 use Rattle.node_laws.proofs.Invariant.TakenBack.{all_back}
 use Rattle.node_laws.proofs.Restarts.Crashes.{crash_honest}
-use Rattle.node_laws.proofs.Machine.Settled.{calm, settled_rows}
+use Rattle.node_laws.proofs.Machine.Settled.{calm, settled_by_log, settled_rows}
 
 -- whatever compensates does something when it is performed
 effective_at : (log : List Record) → IsLegal log → HasRightAnswers log → (n t u x : ℕ) (i : Op)
@@ -60,7 +60,7 @@ none_refused log legal right n t u x i a at answered =
     let asks : Requests log n i = ap request_in at in
     subst IsEffective (sym (right_at log n a legal right answered i asks)) (effective_at log legal right n t u x i at)
 
-pub promised : (w : NodeView) → IsKept w → Promises w
+pub promised : KeptPromises
 promised w k = record {
   honest = record {
     cached = all_back w k;
@@ -71,6 +71,7 @@ promised w k = record {
   };
   once = λ n m undoes one two. compensated_once w.tc.log n m undoes k.tc.legal one two;
   unrefused = none_refused w.tc.log k.tc.legal k.right;
+  by_log = settled_by_log w k;
   commits = λ m stands t n at stable.
       let both = stable_is_committed (clients w.tc) m t n k.tc.legal stands at stable in
       record { committed = both.0; entries = both.1 };

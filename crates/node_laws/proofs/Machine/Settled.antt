@@ -27,6 +27,7 @@ use Rattle.tc_core.specs.TcView.{TcView, is_none_lost, rolls_back, is_rolling, i
 use Rattle.tc_core.proofs.KeepsTc.{open_at, waits_at}
 use Rattle.node_laws.specs.Node.{NodeView, AreUp}
 use Rattle.node_laws.specs.Kept.{IsKept, IsServed}
+use Rattle.node_laws.specs.Promises.{IsPlainByLog}
 use Rattle.node_laws.proofs.Invariant.Running.{past_is}
 use Rattle.tc_core.specs.Kept.{IsPhase, IsPhaseOf, IsTc}
 use Rattle.dc_core.specs.Tends.{may_merge}
@@ -113,13 +114,18 @@ calm w k running unrolled =
     by t n (Some o) some = ap (λ y. is_to_undo (doing_in y) n) some
         ∙ flat_undoes_none o n (flat o (sym (ap is_rolling some) ∙ unrolled t))
 
--- a settled node holds what a plain map holds after the operations that stand
-pub settled_rows : (w : NodeView) (m : Machine) → IsKept w → NodeStandsFor w m → IsSettled w
-    → rows_of (leaves w.dc) ≡ plain m.h
-settled_rows w m k stands settled =
+-- a settled node holds what a plain map holds after the operations that stand in its log
+pub settled_by_log : (w : NodeView) → IsKept w → IsSettled w → IsPlainByLog w
+settled_by_log w k settled =
     same_table (rows_of (leaves w.dc)) (plain (hist w.tc.log))
     (λ q. (one_table (leaves w.dc) k.dc.system.leaves).value q ∙ (honest_at w q k (settled_live w k settled)).right
     ∙ settled_value w k settled q)
+
+-- and in whatever machine it stands for
+pub settled_rows : (w : NodeView) (m : Machine) → IsKept w → NodeStandsFor w m → IsSettled w
+    → rows_of (leaves w.dc) ≡ plain m.h
+settled_rows w m k stands settled =
+    settled_by_log w k settled
     ∙ sym (sym (plain_uncrossed m.h)
     ∙ ap plain (calm_entries (clients w.tc) m stands (calm w k.tc settled.running settled.unrolled))
     ∙ plain_uncrossed (hist w.tc.log))

@@ -3,7 +3,7 @@ use Rattle.std.proofs.lemmas.Result.{IfOk-weaker}
 use Rattle.clap.specs.Simple.{app_of, with_rule}
 use Rattle.clap.specs.Walk.{rule_of}
 use Rattle.command_line.proofs.Adding.{local_with}
-use Rattle.command_line.specs.CommandLine.{IsLocal, counting_refusals, creating, plain_run}
+use Rattle.command_line.specs.CommandLine.{IsLocal, counting_refusals, creating, interacting, plain_run}
 use Rattle.command_line.proofs.task.run_command.Goals as goal
 
 pub returns-clause-app : goal.returns-clause-app
@@ -14,10 +14,16 @@ returns-clause-app c =
     c.in_ok-arg.ensures.shape local ∙ ap₂ with_rule c.in_ok-command.ensures.app rule in
     let local_2 : c.help-2.result.global ≡ false = search rules in
     let rule_2 : rule_of c.help-2.result ≡ counting_refusals = search rules in
-    IfOk-weaker c.arg-2.result _ _ (λ made added. added.shape local_2 ∙ ap₂ with_rule one rule_2) c.arg-2.ensures
+    let two : app_of c.in_ok-arg-2.field-0 ≡ with_rule (with_rule plain_run creating) counting_refusals =
+    c.in_ok-arg-2.ensures.shape local_2 ∙ ap₂ with_rule one rule_2 in
+    let local_3 : c.help-3.result.global ≡ false = search rules in
+    let rule_3 : rule_of c.help-3.result ≡ interacting = search rules in
+    IfOk-weaker c.arg-3.result _ _ (λ made added. added.shape local_3 ∙ ap₂ with_rule two rule_3) c.arg-3.ensures
 
 pub returns-clause-local : goal.returns-clause-local
 returns-clause-local c =
     let one : IsLocal c.in_ok-arg.field-0 =
     local_with _ _ c.in_ok-arg.field-0 c.in_ok-arg.ensures c.in_ok-command.ensures.local (search rules) in
-    IfOk-weaker c.arg-2.result _ _ (λ made added. local_with _ _ made added one (search rules)) c.arg-2.ensures
+    let two : IsLocal c.in_ok-arg-2.field-0 =
+    local_with _ _ c.in_ok-arg-2.field-0 c.in_ok-arg-2.ensures one (search rules) in
+    IfOk-weaker c.arg-3.result _ _ (λ made added. local_with _ _ made added two (search rules)) c.arg-3.ensures

@@ -6,89 +6,107 @@ use Rattle.clap.specs.Simple.{subcommand_rows_of}
 use Rattle.clap.specs.Walk.{Row, Text, one_of, rows_of}
 use Rattle.clap.proofs.WalkLemmas.{first_value-rows, one_text-rows}
 use Rattle.command_line.specs.declared.task.Task.TheVariants as task
-use Rattle.command_line.specs.Asked.{AsksFor, IsGivenText, IsSet}
+use Rattle.command_line.specs.Asked.{AsksFor, IsGivenText, IsSet, NamesStore}
 use Rattle.command_line.proofs.task.task_of.Goals as goal
 
--- the words name `run` with these rows, in which the flags are set and the folder is named so
-asks_run : (s : Option (Text × List Row)) (rows : List Row) (set reads_only creates strict : Bool)
-    (store : Option (Bor Text)) → option_map (λ p. p.0) s ≡ Some (codes "run") → option_map (λ p. p.1) s ≡ Some rows
-    → IsSet rows (codes "continue") set → IsGivenText rows (codes "store") store
-    → IsSet rows (codes "read-only") reads_only → IsSet rows (codes "create") creates
-    → IsSet rows (codes "strict") strict → AsksFor s (task.Run set store reads_only creates strict)
-asks_run None rows set reads_only creates strict store name same is named reads makes counts = absurd (cc name)
-asks_run (Some s) rows set reads_only creates strict store name same is named reads makes counts =
-    let own : s.0 ≡ codes "run" = cc name in
-    let its : s.1 ≡ rows = cc same in (
-      own,
-      subst (λ (r : List Row). IsSet r (codes "continue") set) (sym its) is,
-      subst (λ (r : List Row). IsGivenText r (codes "store") store) (sym its) named,
-      subst (λ (r : List Row). IsSet r (codes "read-only") reads_only) (sym its) reads,
-      subst (λ (r : List Row). IsSet r (codes "create") creates) (sym its) makes,
-      subst (λ (r : List Row). IsSet r (codes "strict") strict) (sym its) counts,
-    )
-
--- the same of `compact`
-asks_compact : (s : Option (Text × List Row)) (rows : List Row) (store : Option (Bor Text))
-    → option_map (λ p. p.0) s ≡ Some (codes "compact") → option_map (λ p. p.1) s ≡ Some rows
-    → IsGivenText rows (codes "store") store → AsksFor s (task.Compact store)
-asks_compact None rows store name same named = absurd (cc name)
-asks_compact (Some s) rows store name same named =
-    let own : s.0 ≡ codes "compact" = cc name in
+-- the words name this subcommand, with these rows, in which the folder is named
+names_store : (A : Option (Text × List Row) → Type 0) (name : Text) (store : Option (Bor Text)) (rows : List Row)
+    → ((s : Text × List Row) → s.1 ≡ rows → NamesStore s name store → A (Some s)) → (s : Option (Text × List Row))
+    → option_map (λ p. p.0) s ≡ Some name → option_map (λ p. p.1) s ≡ Some rows
+    → IsGivenText rows (codes "store") store → A s
+names_store A name store rows asks None is same named = absurd (cc is)
+names_store A name store rows asks (Some s) is same named =
+    let own : s.0 ≡ name = cc is in
     let its : s.1 ≡ rows = cc same in
-    (own, subst (λ (r : List Row). IsGivenText r (codes "store") store) (sym its) named)
+    asks s its (own, subst (λ (r : List Row). IsGivenText r (codes "store") store) (sym its) named)
 
--- and of `check`
-asks_check : (s : Option (Text × List Row)) (rows : List Row) (store : Option (Bor Text))
-    → option_map (λ p. p.0) s ≡ Some (codes "check") → option_map (λ p. p.1) s ≡ Some rows
-    → IsGivenText rows (codes "store") store → AsksFor s (task.Check store)
-asks_check None rows store name same named = absurd (cc name)
-asks_check (Some s) rows store name same named =
-    let own : s.0 ≡ codes "check" = cc name in
-    let its : s.1 ≡ rows = cc same in
-    (own, subst (λ (r : List Row). IsGivenText r (codes "store") store) (sym its) named)
+-- a flag is the same in the same rows
+set_there : (flag : Text) (set : Bool) (old new : List Row) → new ≡ old → IsSet old flag set → IsSet new flag set
+set_there flag set old new its is = subst (λ (r : List Row). IsSet r flag set) (sym its) is
 
 pub returns-in-Some-subcommand_matches-3-clause-asks : goal.returns-in-Some-subcommand_matches-3-clause-asks
 returns-in-Some-subcommand_matches-3-clause-asks c =
     let found : Found = found_of c.in-Some-subcommand_matches-3.asked.now in
-    asks_compact (subcommand_rows_of c.args.matches.now) (rows_of found) c.get_str.result (search rules) (search rules)
+    names_store (λ s. AsksFor s (task.Compact c.get_str.result)) (codes "compact") c.get_str.result
+    (rows_of found) (λ s its named. named) (subcommand_rows_of c.args.matches.now) (search rules) (search rules)
     (c.get_str.ensures ∙ first_value-rows found (codes "store"))
 
 pub returns-in-Some-subcommand_matches-4-clause-asks : goal.returns-in-Some-subcommand_matches-4-clause-asks
 returns-in-Some-subcommand_matches-4-clause-asks c =
     let found : Found = found_of c.in-Some-subcommand_matches-4.asked.now in
-    asks_check (subcommand_rows_of c.args.matches.now) (rows_of found)
-    c.get_str-in-Some-subcommand_matches-4.result (search rules) (search rules)
+    names_store (λ s. AsksFor s (task.Check c.get_str-in-Some-subcommand_matches-4.result)) (codes "check") c.get_str-in-Some-subcommand_matches-4.result
+    (rows_of found) (λ s its named. named) (subcommand_rows_of c.args.matches.now) (search rules) (search rules)
     (c.get_str-in-Some-subcommand_matches-4.ensures ∙ first_value-rows found (codes "store"))
+
+pub returns-in-Some-subcommand_matches-5-clause-asks : goal.returns-in-Some-subcommand_matches-5-clause-asks
+returns-in-Some-subcommand_matches-5-clause-asks c =
+    let found : Found = found_of c.in-Some-subcommand_matches-5.asked.now in
+    names_store (λ s. AsksFor s (task.Dump c.get_str-in-Some-subcommand_matches-5.result)) (codes "dump") c.get_str-in-Some-subcommand_matches-5.result
+    (rows_of found) (λ s its named. named) (subcommand_rows_of c.args.matches.now) (search rules) (search rules)
+    (c.get_str-in-Some-subcommand_matches-5.ensures ∙ first_value-rows found (codes "store"))
+
+pub returns-in-Some-subcommand_matches-7-clause-asks : goal.returns-in-Some-subcommand_matches-7-clause-asks
+returns-in-Some-subcommand_matches-7-clause-asks c =
+    let found : Found = found_of c.in-Some-subcommand_matches-7.asked.now in
+    names_store (λ s. AsksFor s (task.Stat c.get_str-in-Some-subcommand_matches-7.result)) (codes "stat") c.get_str-in-Some-subcommand_matches-7.result
+    (rows_of found) (λ s its named. named) (subcommand_rows_of c.args.matches.now) (search rules) (search rules)
+    (c.get_str-in-Some-subcommand_matches-7.ensures ∙ first_value-rows found (codes "store"))
+
+pub returns-in-Some-subcommand_matches-6-clause-asks : goal.returns-in-Some-subcommand_matches-6-clause-asks
+returns-in-Some-subcommand_matches-6-clause-asks c =
+    let found : Found = found_of c.in-Some-subcommand_matches-6.asked.now in
+    let of : (flag : Text) → one_text found flag ≡ one_of flag (rows_of found) = λ flag. one_text-rows found flag in
+    let create : IsSet (rows_of found) (codes "create") c.get_flag.result = record {
+      given = λ e. c.get_flag.ensures.value (of (codes "create") ∙ e);
+      otherwise = λ e. c.get_flag.ensures.other (of (codes "create") ∙ e);
+      absent = λ e. c.get_flag.ensures.none (of (codes "create") ∙ e);
+    } in
+    names_store (λ s. AsksFor s (task.Load c.get_str-in-Some-subcommand_matches-6.result c.get_flag.result)) (codes "load")
+    c.get_str-in-Some-subcommand_matches-6.result (rows_of found)
+    (λ s its named. (named, set_there (codes "create") c.get_flag.result (rows_of found) s.1 its create))
+    (subcommand_rows_of c.args.matches.now) (search rules) (search rules)
+    (c.get_str-in-Some-subcommand_matches-6.ensures ∙ first_value-rows found (codes "store"))
 
 pub returns-clause-asks : goal.returns-clause-asks
 returns-clause-asks c =
-    let found : Found = found_of c.in-Some-subcommand_matches-5.asked.now in
+    let found : Found = found_of c.in-Some-subcommand_matches-8.asked.now in
     let of : (flag : Text) → one_text found flag ≡ one_of flag (rows_of found) = λ flag. one_text-rows found flag in
-    asks_run (subcommand_rows_of c.args.matches.now) (rows_of found)
-    c.get_flag.result
-    c.get_flag-in-Some-subcommand_matches-5.result
-    c.get_flag-in-Some-subcommand_matches-5-2.result
-    c.get_flag-in-Some-subcommand_matches-5-3.result
-    c.get_str-in-Some-subcommand_matches-5.result
-    (search rules) (search rules)
-    (record {
-      given = λ e. c.get_flag.ensures.value (of (codes "continue") ∙ e);
-      otherwise = λ e. c.get_flag.ensures.other (of (codes "continue") ∙ e);
-      absent = λ e. c.get_flag.ensures.none (of (codes "continue") ∙ e);
-    })
-    (c.get_str-in-Some-subcommand_matches-5.ensures ∙ first_value-rows found (codes "store"))
-    (record {
-      given = λ e. c.get_flag-in-Some-subcommand_matches-5.ensures.value (of (codes "read-only") ∙ e);
-      otherwise = λ e. c.get_flag-in-Some-subcommand_matches-5.ensures.other (of (codes "read-only") ∙ e);
-      absent = λ e. c.get_flag-in-Some-subcommand_matches-5.ensures.none (of (codes "read-only") ∙ e);
-    })
-    (record {
-      given = λ e. c.get_flag-in-Some-subcommand_matches-5-2.ensures.value (of (codes "create") ∙ e);
-      otherwise = λ e. c.get_flag-in-Some-subcommand_matches-5-2.ensures.other (of (codes "create") ∙ e);
-      absent = λ e. c.get_flag-in-Some-subcommand_matches-5-2.ensures.none (of (codes "create") ∙ e);
-    })
-    (record {
-      given = λ e. c.get_flag-in-Some-subcommand_matches-5-3.ensures.value (of (codes "strict") ∙ e);
-      otherwise = λ e. c.get_flag-in-Some-subcommand_matches-5-3.ensures.other (of (codes "strict") ∙ e);
-      absent = λ e. c.get_flag-in-Some-subcommand_matches-5-3.ensures.none (of (codes "strict") ∙ e);
-    })
+    let continue : IsSet (rows_of found) (codes "continue") c.get_flag-in-Some-subcommand_matches-8.result = record {
+      given = λ e. c.get_flag-in-Some-subcommand_matches-8.ensures.value (of (codes "continue") ∙ e);
+      otherwise = λ e. c.get_flag-in-Some-subcommand_matches-8.ensures.other (of (codes "continue") ∙ e);
+      absent = λ e. c.get_flag-in-Some-subcommand_matches-8.ensures.none (of (codes "continue") ∙ e);
+    } in
+    let read_only : IsSet (rows_of found) (codes "read-only") c.get_flag-in-Some-subcommand_matches-8-2.result = record {
+      given = λ e. c.get_flag-in-Some-subcommand_matches-8-2.ensures.value (of (codes "read-only") ∙ e);
+      otherwise = λ e. c.get_flag-in-Some-subcommand_matches-8-2.ensures.other (of (codes "read-only") ∙ e);
+      absent = λ e. c.get_flag-in-Some-subcommand_matches-8-2.ensures.none (of (codes "read-only") ∙ e);
+    } in
+    let create : IsSet (rows_of found) (codes "create") c.get_flag-in-Some-subcommand_matches-8-3.result = record {
+      given = λ e. c.get_flag-in-Some-subcommand_matches-8-3.ensures.value (of (codes "create") ∙ e);
+      otherwise = λ e. c.get_flag-in-Some-subcommand_matches-8-3.ensures.other (of (codes "create") ∙ e);
+      absent = λ e. c.get_flag-in-Some-subcommand_matches-8-3.ensures.none (of (codes "create") ∙ e);
+    } in
+    let strict : IsSet (rows_of found) (codes "strict") c.get_flag-in-Some-subcommand_matches-8-4.result = record {
+      given = λ e. c.get_flag-in-Some-subcommand_matches-8-4.ensures.value (of (codes "strict") ∙ e);
+      otherwise = λ e. c.get_flag-in-Some-subcommand_matches-8-4.ensures.other (of (codes "strict") ∙ e);
+      absent = λ e. c.get_flag-in-Some-subcommand_matches-8-4.ensures.none (of (codes "strict") ∙ e);
+    } in
+    let interactive : IsSet (rows_of found) (codes "interactive") c.get_flag-in-Some-subcommand_matches-8-5.result = record {
+      given = λ e. c.get_flag-in-Some-subcommand_matches-8-5.ensures.value (of (codes "interactive") ∙ e);
+      otherwise = λ e. c.get_flag-in-Some-subcommand_matches-8-5.ensures.other (of (codes "interactive") ∙ e);
+      absent = λ e. c.get_flag-in-Some-subcommand_matches-8-5.ensures.none (of (codes "interactive") ∙ e);
+    } in
+    let there = λ (flag : Text) (set : Bool) (s : Text × List Row) (its : s.1 ≡ rows_of found). set_there flag set (rows_of found) s.1 its in
+    names_store
+    (λ s. AsksFor s (task.Run c.get_flag-in-Some-subcommand_matches-8.result c.get_str-in-Some-subcommand_matches-8.result c.get_flag-in-Some-subcommand_matches-8-2.result c.get_flag-in-Some-subcommand_matches-8-3.result c.get_flag-in-Some-subcommand_matches-8-4.result c.get_flag-in-Some-subcommand_matches-8-5.result))
+    (codes "run") c.get_str-in-Some-subcommand_matches-8.result (rows_of found)
+    (λ s its named. (
+      named,
+      there (codes "continue") c.get_flag-in-Some-subcommand_matches-8.result s its continue,
+      there (codes "read-only") c.get_flag-in-Some-subcommand_matches-8-2.result s its read_only,
+      there (codes "create") c.get_flag-in-Some-subcommand_matches-8-3.result s its create,
+      there (codes "strict") c.get_flag-in-Some-subcommand_matches-8-4.result s its strict,
+      there (codes "interactive") c.get_flag-in-Some-subcommand_matches-8-5.result s its interactive,
+    ))
+    (subcommand_rows_of c.args.matches.now) (search rules) (search rules)
+    (c.get_str-in-Some-subcommand_matches-8.ensures ∙ first_value-rows found (codes "store"))

@@ -1,5 +1,9 @@
-use Rattle.std.proofs.Common.{ap, ◌∙◌}
+use Rattle.std.proofs.Common.{ap, ◌∙◌, subst}
+use Rattle.pool_journal.specs.Adding.{AddsEntry}
+use Rattle.pool_journal.specs.Desks.{DcFound}
+use Rattle.pool_journal.specs.Kept.{is_dc}
 use Rattle.pool_journal.specs.Views.{View}
+use Rattle.pool_journal.proofs.Adding.{adds}
 use Rattle.pool_journal.proofs.Sitting.{dc_goes_alone}
 use Rattle.pool_journal.proofs.dc_desk.DcDesk.enter.Goals as goal
 
@@ -20,3 +24,10 @@ invariant_of-self g c =
       name = ap (λ (v : View). v.name) c.enter_dc.ensures.visitor ∙ c.self.invariant.name;
       gives = c.enter_dc.ensures.gives _ enters;
     }
+
+pub returns-clause-added : goal.returns-clause-added
+returns-clause-added g c =
+    let s = c.self.inside in let said = c.enter_dc.ensures in
+    subst (λ (f : DcFound). AddsEntry is_dc f.steps c.enter_dc.result c.enter_dc.new.visitor.steps) c.self.view_is
+    (adds is_dc s.visitor.steps _ c.enter_dc.new.visitor.steps c.enter_dc.result _ said.sees said.value said.before
+    (ap (λ (x : View). x.steps) said.visitor ∙ said.entered))

@@ -3,9 +3,12 @@ use Rattle.std.proofs.Common.{◌≡◌, ap, ◌∙◌, subst, sym}
 use Rattle.pool_journal.specs.declared.entry.Entry.{Entry}
 use Rattle.node_sides.specs.node_laws.specs.Halves.{IsSpelledIf, IsInNode}
 use Rattle.node_sides.specs.node_laws.specs.declared.event.Event.TheVariants as event
+use Rattle.pool_journal.specs.Adding.{AddsEntry}
+use Rattle.pool_journal.specs.Desks.{DcFound}
 use Rattle.pool_journal.specs.Kept.{IsSentBy, is_dc}
 use Rattle.pool_journal.specs.Steps.{requests}
 use Rattle.pool_journal.specs.Views.{View, Sees}
+use Rattle.pool_journal.proofs.Adding.{adds, sees_on, request_sent}
 use Rattle.pool_journal.proofs.Sitting.{dc_goes_with, dc_kept_on, in_node_with}
 use Rattle.pool_journal.proofs.dc_desk.DcDesk.serve.Goals as goal
 
@@ -64,3 +67,21 @@ invariant_of-self-2 g c =
           ∙ c.self.invariant.name;
       gives = c.enter_dc.ensures.gives _ enters;
     }
+
+pub returns-clause-added : goal.returns-clause-added
+returns-clause-added g c =
+    let s = c.self.inside in let said = c.enter_dc.ensures in
+    subst (λ (f : DcFound). AddsEntry is_dc f.steps c.enter_dc.result c.enter_dc.new.visitor.steps) c.self.view_is
+    (adds is_dc s.visitor.steps _ c.enter_dc.new.visitor.steps c.enter_dc.result _
+    (sees_on is_dc s.visitor.steps c.look_request.new.visitor.steps _
+    (subst (λ (x : View). Sees is_dc s.visitor.steps x.steps) (sym c.look_request.ensures.visitor) c.look_request.ensures.sees)
+    said.sees) said.value said.before
+    (ap (λ (x : View). x.steps) said.visitor ∙ said.entered))
+
+pub returns-clause-sent : goal.returns-clause-sent
+returns-clause-sent g c =
+    let look = c.look_request.ensures in let said = c.enter_dc.ensures in let v = c.look_request.new.visitor in
+    request_sent is_dc v.steps c.args.number _ c.enter_dc.result
+    (subst (λ (x : View). IsSentBy (requests x.steps) c.args.number c.in_ok-sent.sent.value.step.value.sent)
+    (sym look.visitor) c.in_ok-sent.ensures.sent)
+    (subst (Sees is_dc v.steps) (sym said.before) said.sees)

@@ -3,9 +3,12 @@ use Rattle.node_sides.specs.node_laws.specs.declared.event.Event.{Event}
 use Rattle.node_sides.specs.node_laws.specs.declared.event.Event.TheVariants as event
 use Rattle.node_sides.specs.node_laws.specs.declared.event.Out.{Out}
 use Rattle.pool_journal.specs.declared.step.Step.{Step}
-use Rattle.pool_journal.specs.Kept.{EntersDc}
+use Rattle.pool_journal.specs.Adding.{AddsEntry}
+use Rattle.pool_journal.specs.Desks.{DcFound}
+use Rattle.pool_journal.specs.Kept.{EntersDc, is_dc}
 use Rattle.pool_journal.specs.Steps.{DcState}
 use Rattle.pool_journal.specs.Views.{View}
+use Rattle.pool_journal.proofs.Adding.{adds}
 use Rattle.pool_journal.proofs.Tending.{tending_enters}
 use Rattle.pool_journal.proofs.dc_desk.DcDesk.tend.Goals as goal
 
@@ -37,3 +40,10 @@ invariant_of-self-2 g c =
       name = ap (λ (v : View). v.name) c.enter_dc.ensures.visitor ∙ c.self.invariant.name;
       gives = c.enter_dc.ensures.gives n enters;
     }
+
+pub returns-clause-added : goal.returns-clause-added
+returns-clause-added g c =
+    let s = c.self.inside in let said = c.enter_dc.ensures in
+    subst (λ (f : DcFound). AddsEntry is_dc f.steps c.enter_dc.result c.enter_dc.new.visitor.steps) c.self.view_is
+    (adds is_dc s.visitor.steps _ c.enter_dc.new.visitor.steps c.enter_dc.result _ said.sees said.value said.before
+    (ap (λ (x : View). x.steps) said.visitor ∙ said.entered))

@@ -1,6 +1,9 @@
 use Rattle.std.proofs.Common.{ap, ◌∙◌, subst, sym}
+use Rattle.pool_journal.specs.Adding.{AddsEntry}
+use Rattle.pool_journal.specs.Desks.{DcFound}
 use Rattle.pool_journal.specs.Kept.{is_dc}
 use Rattle.pool_journal.specs.Views.{View, Sees}
+use Rattle.pool_journal.proofs.Adding.{adds, sees_on}
 use Rattle.pool_journal.proofs.Along.{dc_on}
 use Rattle.pool_journal.proofs.Sitting.{dc_goes_alone, in_node}
 use Rattle.pool_journal.proofs.dc_desk.DcDesk.turn.Goals as goal
@@ -33,3 +36,13 @@ invariant_of-self g c =
           ∙ c.self.invariant.name;
       gives = c.enter_dc.ensures.gives _ enters;
     }
+
+pub returns-clause-added : goal.returns-clause-added
+returns-clause-added g c =
+    let s = c.self.inside in let said = c.enter_dc.ensures in
+    subst (λ (f : DcFound). AddsEntry is_dc f.steps c.enter_dc.result c.enter_dc.new.visitor.steps) c.self.view_is
+    (adds is_dc s.visitor.steps _ c.enter_dc.new.visitor.steps c.enter_dc.result _
+    (sees_on is_dc s.visitor.steps c.look_dc.new.visitor.steps _
+    (subst (λ (x : View). Sees is_dc s.visitor.steps x.steps) (sym c.look_dc.ensures.visitor) c.look_dc.ensures.sees)
+    said.sees) said.value said.before
+    (ap (λ (x : View). x.steps) said.visitor ∙ said.entered))

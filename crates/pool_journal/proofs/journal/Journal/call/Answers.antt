@@ -5,11 +5,13 @@ use Rattle.pool_journal.specs.declared.entry.Entry.{Entry}
 use Rattle.pool_journal.specs.declared.place.Place.{Place}
 use Rattle.pool_journal.specs.declared.step.Step.{Step}
 use Rattle.pool_journal.specs.Callers.{CallerView}
+use Rattle.pool_journal.specs.Commands.{OwnKept}
 use Rattle.pool_journal.specs.Kept.{PlaceKept, PlacesKept, calls_of, place_after}
 use Rattle.pool_journal.specs.Errands.{errand_of}
 use Rattle.pool_journal.specs.Sessions.{IsCalled, IsLeft, live_after, is_pending, part_of, IsClosed}
 use Rattle.pool_journal.specs.Slots.{Slot, through}
 use Rattle.pool_journal.specs.Views.{View, Sees}
+use Rattle.pool_journal.proofs.Commanding.{own_mild}
 use Rattle.pool_journal.proofs.Entering.{own_place, places_called, part_called, calls_same}
 use Rattle.pool_journal.proofs.Parts.{called_kept, grown}
 use Rattle.pool_journal.proofs.journal.Journal.call.Goals as goal
@@ -77,6 +79,8 @@ invariant_of-self g c =
       subst (λ (w : List Step × List (Place g.row.J.Denot)). PlacesKept J.entries J.names w.0 (set w.1 n q))
           (λ i. (now i, sym c.hear_all.ensures.heard i)) kept,
       c.hear_all.ensures.count ∙ c.self.invariant.1,
+      subst (λ (es : List Step). OwnKept J.names es s.own) (sym c.enter_tc-token.ensures.entered)
+          (own_mild J.names s.lines s.own c.args.step.value c.requires.mild c.self.invariant.2),
     )
 
 pub returns-clause-called : goal.returns-clause-called

@@ -1,7 +1,9 @@
 use Rattle.std.proofs.Common.{◌≡◌, ◌++◌, [], ◌∷◌, List, ap, sym, ◌∙◌, subst}
 use Rattle.pool_journal.specs.declared.place.Place.{Place}
 use Rattle.pool_journal.specs.declared.step.Step.{Step}
+use Rattle.pool_journal.specs.Commands.{OwnKept}
 use Rattle.pool_journal.specs.Kept.{PlacesKept}
+use Rattle.pool_journal.proofs.Commanding.{own_mild}
 use Rattle.pool_journal.proofs.Entering.{places_heard}
 use Rattle.pool_journal.proofs.journal.Journal.enter_tc.Goals as goal
 
@@ -18,4 +20,6 @@ invariant_of-self g c =
       subst (λ (w : List Step × List (Place g.row.J.Denot)). PlacesKept J.entries J.names w.0 w.1)
           (λ i. (now i, sym c.hear_all.ensures.heard i)) kept,
       c.hear_all.ensures.count ∙ c.self.invariant.1,
+      subst (λ (es : List Step). OwnKept J.names es s.own) (sym said.entered)
+          (own_mild J.names s.lines s.own c.args.step.value c.requires.mild c.self.invariant.2),
     )

@@ -1,5 +1,6 @@
 use Rattle.std.proofs.Common.{List, sym, subst}
 use Rattle.pool_journal.specs.declared.step.Step.{Step}
+use Rattle.pool_journal.specs.Commands.{OwnKept}
 use Rattle.pool_journal.specs.Kept.{PlacesKept}
 use Rattle.pool_journal.proofs.journal.Journal.look_dc.Goals as goal
 
@@ -9,4 +10,5 @@ invariant_of-self g c =
       subst (λ (es : List Step). PlacesKept J.entries J.names es c.self.inside.places.items)
           (sym c.meet_dc.ensures.same) c.self.invariant.0,
       c.self.invariant.1,
+      subst (λ (es : List Step). OwnKept J.names es c.self.inside.own) (sym c.meet_dc.ensures.same) c.self.invariant.2,
     )

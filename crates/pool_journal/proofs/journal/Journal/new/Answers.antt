@@ -1,6 +1,8 @@
-use Rattle.std.proofs.Common.{List, sym, subst}
+use Rattle.std.proofs.Common.{List, ap, sym, ◌∙◌, subst}
 use Rattle.pool_journal.specs.declared.step.Step.{Step}
 use Rattle.pool_journal.specs.Kept.{PlacesKept}
+use Rattle.pool_journal.specs.Views.{View}
+use Rattle.pool_journal.proofs.Commanding.{own_all}
 use Rattle.pool_journal.proofs.journal.Journal.new.Goals as goal
 
 pub invariant_of-result : goal.invariant_of-result
@@ -9,4 +11,6 @@ invariant_of-result g c =
     let places = c.args.places.items in (
       subst (λ (es : List Step). PlacesKept J.entries J.names es places) (sym c.requires.empty) c.requires.places,
       c.requires.count,
+      own_all J.names c.args.lines c.new.result (ap (λ (v : View). v.name) c.new.ensures ∙ c.requires.own.0)
+          (ap (λ (v : View). v.steps) c.new.ensures ∙ sym c.requires.empty),
     )

@@ -12,4 +12,4 @@ invariant_of-self g c =
     let p = c.index_mut-place.result.now in
     let less : n < length ps = search rules in
     let at = slice_get_read ps (length ps) n p refl less c.index_mut-place.ensures.value in
-    (places_resumed J.entries J.names s.lines ps n p _ c.self.invariant.0 at refl, c.self.invariant.1)
+    (places_resumed J.entries J.names s.lines ps n p _ c.self.invariant.0 at refl, c.self.invariant.1, c.self.invariant.2)

@@ -4,10 +4,10 @@ use Rattle.std.specs.Option.{is_some}
 use Rattle.boxcar.specs.Table.{Shelves}
 use Rattle.pool_journal.specs.declared.entry.Entry.{Entry}
 use Rattle.pool_journal.specs.declared.step.Step.{Step}
-use Rattle.pool_journal.specs.Kept.{EntersDc}
+use Rattle.pool_journal.specs.Kept.{EntersDc, is_dc}
 use Rattle.pool_journal.specs.Slots.{Slot, Shown, through, steps, last_of}
 use Rattle.pool_journal.specs.Steps.{is_tc, GivesDc}
-use Rattle.pool_journal.specs.Views.{View}
+use Rattle.pool_journal.specs.Views.{View, Sees}
 use Rattle.pool_journal.proofs.Along.{dc_entered}
 use Rattle.pool_journal.proofs.Entering.{dc_enters, last_seen, through_is}
 use Rattle.pool_journal.proofs.lines.Lines.enter_dc.Goals as goal
@@ -56,3 +56,9 @@ returns-clause-gives g c n enters =
     ∙ ap (λ (x : Slot). through x.value) c.again.ensures ∙ all in
     subst (λ (es : List Step). GivesDc g.J.Naming.start es n) (sym now)
     (dc_entered g.J.Naming.start s.dc.steps (steps s.tokens.items) e n (not-true (is_tc e) c.requires.dc) k.dc_sees enters')
+
+pub returns-clause-sees : goal.returns-clause-sees
+returns-clause-sees g c =
+    let s = c.self.inside in
+    subst (λ (es : List Step). Sees is_dc c.args.visitor.now.steps es) c.self.view_is
+    (subst (λ (v : View). Sees is_dc v.steps (steps s.tokens.items)) c.meet.ensures.same c.self.invariant.dc_sees)

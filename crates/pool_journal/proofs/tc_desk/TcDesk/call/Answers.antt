@@ -1,7 +1,11 @@
 use Rattle.std.proofs.Common.{ap, sym, ◌∙◌, subst, le_trans}
 use Rattle.node_sides.specs.node_laws.specs.declared.event.Event.{Event}
+use Rattle.pool_journal.specs.Adding.{AddsEntry}
+use Rattle.pool_journal.specs.Desks.{TcFound}
 use Rattle.pool_journal.specs.Marking.{IsLowOf}
+use Rattle.pool_journal.specs.Steps.{is_tc}
 use Rattle.pool_journal.specs.Views.{View}
+use Rattle.pool_journal.proofs.Adding.{adds}
 use Rattle.pool_journal.proofs.Marking.{low_is, seat_marked}
 use Rattle.pool_journal.proofs.Stable.{alone_rises}
 use Rattle.pool_journal.proofs.Sitting.{tc_goes_alone}
@@ -43,3 +47,10 @@ invariant_of-self g c =
           s.side.tc.stable c.stepped-step.new.side.tc.stable s.seat c.mark.new.seat c.self.invariant.seated said.sees
           (ap (λ (v : View). v.steps) said.visitor ∙ said.entered) marked.seat.0 marked.seat.1 marked.stable marked.low;
     }
+
+pub returns-clause-added : goal.returns-clause-added
+returns-clause-added g c =
+    let said = c.call.ensures in
+    subst (λ (f : TcFound). AddsEntry is_tc f.steps c.call.result c.call.new.visitor.steps) c.self.view_is
+    (adds is_tc c.self.inside.visitor.steps _ c.call.new.visitor.steps c.call.result _ said.sees said.value said.before
+    (ap (λ (v : View). v.steps) said.visitor ∙ said.entered))

@@ -15,19 +15,20 @@ cut_of : (tc : TcView) (kept : ℕ) (up : Bool) (cut : Result (ℕ × ℕ) Refus
 cut_of tc kept up (Ok c) other leaves down runs = leaves
 cut_of tc kept up (Err refusal) other leaves down runs = absurd (true≢false (sym runs ∙ down))
 
-pub returns : goal.returns
-returns g c =
+pub returns-clause-left : goal.returns-clause-left
+returns-clause-left g c =
     let s = c.self.inside in let cut = c.cut_after.ensures in
     record {
       frames = c.unwrap_or-frames.result.0;
       bytes = c.unwrap_or-frames.result.1;
-      entry = c.enter.result;
-      shown = c.enter.ensures.shown;
-      event_is = c.enter.ensures.event;
-      old = record { side = s.side; sent = s.sent };
+      given = c.command.ensures.given;
+      shown = c.command.ensures.shown;
+      event_is = c.command.ensures.event;
+      first = c.command.ensures.first;
+      state = record { side = s.side; sent = s.sent };
       gives =
-          subst (λ (f : TcFound). GivesTc g.J.Naming.start c.enter.result.value.before.steps f.state)
-          (sym c.self.view_is) c.enter.ensures.stood;
+          subst (λ (f : TcFound). GivesTc g.J.Naming.start c.command.result.value.before.steps f.state)
+          (sym c.self.view_is) c.command.ensures.stood;
       leaves = λ up. subst (λ (p : ℕ × ℕ). LeavesBytes s.side.tc c.args.kept p.0 p.1)
           (sym c.unwrap_or-frames.ensures)
           (cut_of s.side.tc c.args.kept s.side.up c.cut_after.result _ cut.leaves cut.down up);

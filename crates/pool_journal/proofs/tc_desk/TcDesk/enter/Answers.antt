@@ -1,11 +1,11 @@
-use Rattle.std.proofs.Common.{List, ap, sym, ◌∙◌, subst, le_trans}
+use Rattle.std.proofs.Common.{ap, sym, ◌∙◌, subst, le_trans}
 use Rattle.node_sides.specs.node_laws.specs.declared.event.Event.{Event}
-use Rattle.pool_journal.specs.declared.step.Step.{Step}
+use Rattle.pool_journal.specs.Adding.{AddsEntry}
 use Rattle.pool_journal.specs.Desks.{TcFound}
 use Rattle.pool_journal.specs.Marking.{IsLowOf}
-use Rattle.pool_journal.specs.Steps.{TcState, GivesTc}
+use Rattle.pool_journal.specs.Steps.{is_tc}
 use Rattle.pool_journal.specs.Views.{View}
-use Rattle.pool_journal.proofs.Along.{tc_on}
+use Rattle.pool_journal.proofs.Adding.{adds}
 use Rattle.pool_journal.proofs.Marking.{low_is, seat_marked}
 use Rattle.pool_journal.proofs.Stable.{alone_rises}
 use Rattle.pool_journal.proofs.Sitting.{tc_goes_alone}
@@ -48,10 +48,9 @@ invariant_of-self g c =
           (ap (λ (v : View). v.steps) said.visitor ∙ said.entered) marked.seat.0 marked.seat.1 marked.stable marked.low;
     }
 
-pub returns-clause-stood : goal.returns-clause-stood
-returns-clause-stood g c =
-    let s = c.self.inside in let said = c.enter_tc.ensures in let start = g.J.Naming.start in
-    let state : TcState = record { side = s.side; sent = s.sent } in
-    subst (λ (f : TcFound). GivesTc g.J.Naming.start c.enter_tc.result.value.before.steps f.state) c.self.view_is
-    (subst (λ (es : List Step). GivesTc g.J.Naming.start es state) (sym said.before)
-    (tc_on start s.visitor.steps _ state said.sees c.self.invariant.gives))
+pub returns-clause-added : goal.returns-clause-added
+returns-clause-added g c =
+    let said = c.enter_tc.ensures in
+    subst (λ (f : TcFound). AddsEntry is_tc f.steps c.enter_tc.result c.enter_tc.new.visitor.steps) c.self.view_is
+    (adds is_tc c.self.inside.visitor.steps _ c.enter_tc.new.visitor.steps c.enter_tc.result _ said.sees said.value said.before
+    (ap (λ (v : View). v.steps) said.visitor ∙ said.entered))

@@ -2,11 +2,14 @@ use Rattle.std.specs.Option.{option_copied}
 use Rattle.std.proofs.Common.{◌≡◌, ◌+◌, ap, ◌∙◌, subst, sym, Some, refl, inl, le_trans}
 use Rattle.node_sides.specs.node_laws.specs.declared.event.Event.{Event}
 use Rattle.node_sides.specs.node_laws.specs.declared.event.Event.TheVariants as event
+use Rattle.pool_journal.specs.Adding.{AddsEntry}
+use Rattle.pool_journal.specs.Desks.{TcFound}
 use Rattle.pool_journal.specs.Marking.{IsLowOf}
 use Rattle.pool_journal.specs.declared.entry.Entry.{Entry}
 use Rattle.pool_journal.specs.Kept.{IsSentBy}
 use Rattle.pool_journal.specs.Steps.{is_tc, replies}
 use Rattle.pool_journal.specs.Views.{View, Sees}
+use Rattle.pool_journal.proofs.Adding.{adds, sees_on, reply_sent}
 use Rattle.pool_journal.proofs.Marking.{seat_on, seat_marked}
 use Rattle.pool_journal.proofs.Stable.{next_rises}
 use Rattle.pool_journal.proofs.Sitting.{tc_goes_with, tc_kept_on}
@@ -77,3 +80,22 @@ invariant_of-self-2 g c =
           said.sees (ap (λ (x : View). x.steps) said.visitor ∙ said.entered) marked.seat.0 marked.seat.1 marked.stable
           marked.low;
     }
+
+pub returns-clause-added : goal.returns-clause-added
+returns-clause-added g c =
+    let s = c.self.inside in let look = c.look_reply.ensures in let said = c.enter_tc.ensures in
+    let v = c.look_reply.new.visitor in
+    let sees : Sees is_tc s.visitor.steps v.steps =
+    subst (λ (x : View). Sees is_tc s.visitor.steps x.steps) (sym look.visitor) look.sees in
+    subst (λ (f : TcFound). AddsEntry is_tc f.steps c.enter_tc.result c.enter_tc.new.visitor.steps) c.self.view_is
+    (adds is_tc s.visitor.steps _ c.enter_tc.new.visitor.steps c.enter_tc.result _
+    (sees_on is_tc s.visitor.steps v.steps _ sees said.sees) said.value said.before
+    (ap (λ (x : View). x.steps) said.visitor ∙ said.entered))
+
+pub returns-clause-sent : goal.returns-clause-sent
+returns-clause-sent g c =
+    let look = c.look_reply.ensures in let said = c.enter_tc.ensures in let v = c.look_reply.new.visitor in
+    reply_sent is_tc v.steps c.args.number _ c.enter_tc.result
+    (subst (λ (x : View). IsSentBy (replies x.steps) c.args.number c.in_ok-given.given.value.step.value.given)
+    (sym look.visitor) c.in_ok-given.ensures.given)
+    (subst (Sees is_tc v.steps) (sym said.before) said.sees)

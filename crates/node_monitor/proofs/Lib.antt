@@ -1,0 +1,4 @@
+pub mod Running
+pub mod Telling
+pub mod Places
+pub mod Calls

@@ -1,0 +1,19 @@
+use Rattle.std.proofs.Common.{List, sym, subst, inl}
+use Rattle.std.specs.List.{AllByRecursion}
+use Rattle.pool_journal.specs.declared.step.Step.{Step}
+use Rattle.node_monitor.specs.Found.{IsOwned}
+use Rattle.node_monitor.specs.Places.{PlacesKept}
+use Rattle.node_monitor.specs.Running.{PassesFrom}
+use Rattle.node_monitor.proofs.guarded.Guarded.new.Goals as goal
+
+pub invariant_of-result : goal.invariant_of-result
+invariant_of-result g c =
+    let J = g.J.Naming in
+    let none = sym c.new.ensures in
+    record {
+      passes = subst (λ (es : List Step). PassesFrom J.start es c.args.world.value) none (inl c.requires.start);
+      places_are =
+          subst (λ (es : List Step). PlacesKept J.entries J.names es c.args.places.items) none c.requires.places;
+      count = c.requires.count;
+      owned = subst (λ (es : List Step). AllByRecursion (IsOwned J.sessions) es) none tt;
+    }

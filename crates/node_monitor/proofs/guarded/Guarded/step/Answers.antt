@@ -1,0 +1,41 @@
+use Rattle.std.proofs.Common.{◌≡◌, ◌++◌, ◌∷◌, [], ◌∙◌, List, None, ap, sym, subst, map, length}
+use Rattle.std.proofs.lemmas.List.{length-map}
+use Rattle.std.specs.List.{AllByRecursion}
+use Rattle.pool_journal.specs.declared.step.Step.{Step}
+use Rattle.pool_journal.specs.node_laws.specs.Node.{NodeView}
+use Rattle.pool_journal.specs.node_laws.specs.Stepping.{IsStep}
+use Rattle.pool_journal.specs.Steps.{node_at}
+use Rattle.node_monitor.specs.declared.place.Place.{Place}
+use Rattle.node_monitor.specs.Found.{IsOwned}
+use Rattle.node_monitor.specs.Places.{PlacesKept, place_after}
+use Rattle.node_monitor.specs.Running.{PassesFrom, made}
+use Rattle.node_monitor.proofs.Places.{places_stepped}
+use Rattle.node_monitor.proofs.Running.{owned_step, passes_snoc}
+use Rattle.node_monitor.proofs.guarded.Guarded.step.Goals as goal
+
+pub invariant_of-self : goal.invariant_of-self
+invariant_of-self g c =
+    let J = g.J.Naming in
+    let k = c.self.invariant in
+    let es = c.self.inside.steps.items in
+    let e = c.args.event.now in
+    let o = c.step_into.new.out in
+    let old = c.self.inside.world.value in
+    let new = c.step_into.new.self in
+    let f = place_after (made None e o) in
+    let stepped : IsStep old e o new =
+    subst (λ (w : NodeView). IsStep w e o new) c.deref_mut.ensures.value c.step_into.ensures in
+    let all = sym c.with_step.ensures in
+    record {
+      passes =
+          subst (λ (xs : List Step). PassesFrom J.start xs new) all
+          (passes_snoc (node_at J.start) es old None e o new k.passes stepped);
+      places_are =
+          subst (λ (w : List Step × List Place). PlacesKept J.entries J.names w.0 w.1)
+          (λ i. (all i, sym c.hear_all.ensures.heard i))
+          (places_stepped J.entries J.names es c.self.inside.places.items e o k.places_are);
+      count =
+          ap (λ (ps : List Place). length ps) c.hear_all.ensures.heard
+          ∙ length-map c.self.inside.places.items f ∙ k.count;
+      owned = subst (AllByRecursion (IsOwned J.sessions)) all (owned_step J.sessions es e o k.owned c.requires.plain);
+    }

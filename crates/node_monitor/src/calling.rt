@@ -1,0 +1,140 @@
+//! A session's call, under one hold of the lock.
+ghost use Rattle.std.specs.Prelude.{◌≡◌, ℕ, ◌++◌, ◌∷◌, [], false, Some, None, IfSome, IfNone};
+ghost use Rattle.pool_journal.specs.node_laws.specs.declared.event.Event.TheVariants as event;
+ghost use Rattle.pool_journal.specs.Kept.{calls_of};
+ghost use Rattle.pool_journal.specs.Sessions.{IsClosed, is_pending, line_of, part_of};
+ghost use Rattle.pool_journal.specs.Views.{Sees};
+ghost use Rattle.session_answers.specs.Answers.{IsSecond, IsUnasked};
+ghost use Rattle.session_answers.specs.Asking.{event_of};
+ghost use Rattle.node_monitor.specs.Callers.{CallsWith, IsNews};
+ghost use Rattle.node_monitor.specs.Running.{is_outage, made};
+
+use crate::caller::Caller;
+use crate::entry::Entry;
+use crate::guarded::Guarded;
+use crate::news::News;
+use crate::rounds::Kind;
+use boxcar::Vec as Row;
+use pool_journal::Naming;
+use pool_journal::node_laws::{Event, Out};
+use session_answers::Ask;
+use stable::{CrashLog, CrashPages};
+use std::sync::Wait;
+
+/// What a session's latest call came to at once, and the step that was made last for it.
+#[derive(Drop)]
+pub struct Outs {
+    pub call: Out,
+    pub line: Out,
+}
+
+impl<J: Naming, D: CrashLog, P: CrashPages> Guarded<J, D, P> {
+    // A call of a session that has seen all of its calls, as far as the node lets it come.
+    fn make<R: Wait>(
+        &mut self,
+        rt: &R,
+        row: &Row<Entry>,
+        caller: &mut Caller<J>,
+        txn: u64,
+        event: &Event,
+        outs: &mut Outs,
+    ) -> News
+        requires row { row.now ≡ J.entries }
+        requires plain { is_outage event.now ≡ false }
+        requires sees { Sees (calls_of caller.old.number) caller.old.steps self.old.steps }
+        requires closed { IsClosed (part_of caller.old.number caller.old.steps) }
+        ensures caller { caller.new ≡ record { number = caller.old.number; steps = self.new.steps; busy = false } }
+        ensures calls { CallsWith event.now outs.new.call (part_of caller.old.number caller.old.steps) result
+            (part_of caller.old.number self.new.steps) }
+        ensures entered { is_pending outs.new.call ≡ false
+            → self.new.steps ≡ self.old.steps ++ made (Some caller.old.number) event.now outs.new.call ∷ [] }
+    {
+        let Outs { call, line } = outs;
+        self.call(rt, caller, event, call);
+        self.carry_on(rt, caller, txn, Kind::of(call), line);
+        self.finish(rt, row, caller)
+    }
+
+    /// A call of the session's transaction, if one is alive, as far as the node lets it come.
+    pub fn ask<R: Wait>(
+        &mut self,
+        rt: &R,
+        row: &Row<Entry>,
+        caller: &mut Caller<J>,
+        ask: Ask,
+        outs: &mut Outs,
+    ) -> Option<(u64, News)>
+        requires row { row.now ≡ J.entries }
+        requires rest { caller.old.busy ≡ false }
+        requires closed { IsClosed (part_of caller.old.number caller.old.steps) }
+        ensures caller { caller.new ≡ record { number = caller.old.number; steps = self.new.steps; busy = false } }
+        ensures none { IfNone result (IsUnasked (part_of caller.old.number caller.old.steps)
+            (part_of caller.old.number self.new.steps)) }
+        ensures calls { IfSome result (λ made. ((part_of caller.old.number caller.old.steps).live ≡ Some made.0)
+            × CallsWith (event_of made.0 ask) outs.new.call (part_of caller.old.number caller.old.steps) made.1
+            (part_of caller.old.number self.new.steps)) }
+    {
+        self.see(row, caller);
+        let Some(txn) = self.live(caller) else {
+            self.finish(rt, row, caller);
+            return None;
+        };
+        let event = ask.into_event(txn);
+        let news = self.make(rt, row, caller, txn, &event, outs);
+        Some((txn, news))
+    }
+
+    /// The call that begins a transaction, unless one is alive.
+    pub fn begin<R: Wait>(
+        &mut self,
+        rt: &R,
+        row: &Row<Entry>,
+        caller: &mut Caller<J>,
+        outs: &mut Outs,
+    ) -> Option<News>
+        requires row { row.now ≡ J.entries }
+        requires rest { caller.old.busy ≡ false }
+        requires closed { IsClosed (part_of caller.old.number caller.old.steps) }
+        ensures caller { caller.new ≡ record { number = caller.old.number; steps = self.new.steps; busy = false } }
+        ensures none { IfNone result (IsSecond (part_of caller.old.number caller.old.steps)
+            (part_of caller.old.number self.new.steps)) }
+        ensures alone { IfSome result (λ news. (part_of caller.old.number self.old.steps).live ≡ None) }
+        ensures entered { IfSome result (λ news. is_pending outs.new.call ≡ false
+            → self.new.steps ≡ self.old.steps ++ made (Some caller.old.number) event.Begin outs.new.call ∷ []) }
+        ensures calls { IfSome result (λ news.
+            CallsWith event.Begin outs.new.call (part_of caller.old.number caller.old.steps) news
+            (part_of caller.old.number self.new.steps)) }
+    {
+        self.see(row, caller);
+        if let Some(_) = self.live(caller) {
+            self.finish(rt, row, caller);
+            return None;
+        }
+        Some(self.make(rt, row, caller, 0, &Event::Begin, outs))
+    }
+
+    /// Carries on a call of which nothing was told yet, as far as the node lets it come.
+    pub fn resume<R: Wait>(
+        &mut self,
+        rt: &R,
+        row: &Row<Entry>,
+        caller: &mut Caller<J>,
+        txn: u64,
+        kind: Kind,
+        outs: &mut Outs,
+    ) -> News
+        requires row { row.now ≡ J.entries }
+        requires rest { caller.old.busy ≡ false }
+        requires untold { line_of (part_of caller.old.number caller.old.steps).latest ≡ None }
+        ensures caller { caller.new ≡ record { number = caller.old.number; steps = self.new.steps; busy = false } }
+        ensures news { IsNews (part_of caller.old.number caller.old.steps) (part_of caller.old.number self.new.steps)
+            result }
+        ensures call { outs.new.call ≡ outs.old.call }
+    {
+        self.see(row, caller);
+        if !self.has_news(caller) {
+            self.carry_on(rt, caller, txn, kind, &mut outs.line);
+        }
+        self.finish(rt, row, caller)
+    }
+}

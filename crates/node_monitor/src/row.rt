@@ -1,0 +1,73 @@
+//! The row in which entries stand, and its growths, which are tried again until they are made.
+ghost use Rattle.std.specs.Prelude.{◌≡◌};
+ghost use Rattle.node_monitor.specs.Slots.{Shown};
+
+use crate::entry::Entry;
+use boxcar::{Pushed, Vec as Row};
+use pool_journal::Naming;
+use std::marker::{Model, PhantomData};
+use std::sync::Wait;
+use std::thread;
+
+/// The row of entries, under the name that its tokens go by.
+#[derive(Drop)]
+pub struct Entries<J: Naming> {
+    row: Row<Entry>,
+    of: PhantomData<J>,
+}
+
+impl<J: Naming> Model for Entries<J> {
+    ghost use Rattle.std.specs.Prelude.{◌≡◌};
+    ghost use Rattle.boxcar.specs.Table.{Shelves, shelves_coded};
+
+    ghost Value = { Shelves };
+
+    ghost coded = { shelves_coded };
+
+    ghost view = { λ e. e.row };
+
+    ghost invariant = { λ e. e.row ≡ J.entries };
+}
+
+impl<J: Naming> Entries<J> {
+    pub fn new(row: Row<Entry>) -> Entries<J>
+        requires { row ≡ J.entries }
+    {
+        Entries {
+            row,
+            of: PhantomData,
+        }
+    }
+
+    /// The row.
+    pub fn row(&self) -> &Row<Entry>
+        ensures { result.now ≡ J.entries }
+    {
+        &self.row
+    }
+}
+
+/// Puts an entry into the row. Where a growth is refused it is tried again until it is made.
+pub fn pushed<R: Wait>(rt: &R, row: &Row<Entry>, entry: Entry) -> Pushed<Entry>
+    ensures shown { Shown row.now result }
+    ensures value { result.value ≡ entry }
+{
+    let mut entry = entry;
+    for _ in rt.forever() {
+        match row.push_shown(rt, entry) {
+            Ok(token) => {
+                if token.index() < usize::MAX {
+                    return token;
+                }
+                break;
+            }
+            Err(back) => entry = back,
+        }
+        thread::yield_now();
+    }
+    // no row gives out this index
+    for _ in rt.forever() {
+        thread::yield_now();
+    }
+    unreachable!()
+}
