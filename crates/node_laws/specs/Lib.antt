@@ -4,6 +4,7 @@ pub mod Messages
 pub mod Source
 pub mod Kept
 pub mod Simulation
+pub mod Standing
 pub mod Stepping
 pub mod Bound
 pub mod Rounds

@@ -11,6 +11,8 @@ use Rattle.history.specs.ListMachine.{Machine}
 use Rattle.history.specs.Log.{record_at, answer_of, hist}
 use Rattle.log_laws.specs.Laws.{Names}
 use Rattle.logical_log.specs.LogView.{last_not_session}
+use Rattle.codec.specs.declared.reply.Reply.{Reply}
+use Rattle.codec.specs.declared.reply.Reply.TheVariants as says
 use Rattle.page.specs.Leaf.{LeafView}
 use Rattle.page.specs.Honest.{IsHonestLeaf}
 use Rattle.page.specs.TakingBack.{taken_back}
@@ -19,6 +21,7 @@ use Rattle.recovery_laws.specs.Ready.{IsHonestTo, AllHave}
 use Rattle.dc_core.specs.system_txn.specs.Crashed.{crashed}
 use Rattle.dc_core.specs.system_txn.specs.Devices.{pages_of}
 use Rattle.dc_core.specs.DcView.{leaves}
+use Rattle.tc_core.specs.TcView.{TcView}
 use Rattle.simulation.specs.Lasting.{HasCommitted}
 use Rattle.simulation.specs.View.{IsCommitAt, standing}
 use Rattle.node_laws.specs.Node.{NodeView}
@@ -50,6 +53,13 @@ IsNoneRefused log =
     (n t u x : ℕ) (i : Op) (a : Answer) → record_at log n ≡ Some (is.Comp t u x (Some i)) → answer_of log n ≡ Some a
     → IsEffective a
 
+-- nor is any reply to a compensation, while clients are served in the reply's session
+abbrev pub IsUnrefused : TcView → Reply → Type 0
+IsUnrefused w (says.Answered s n (Some a)) =
+    (IsWaiting w.phase → ⊥) → s ≡ w.session → (t u x : ℕ) (i : Op) → record_at w.log n ≡ Some (is.Comp t u x (Some i))
+    → IsEffective a
+IsUnrefused w _ = Unit {0}
+
 -- whose Commit record is stable has committed, and of its entries those stand that do in the log; and all records are
 -- stable that a component found when it was opened
 pub record IsCommitted (log : List Record) (m : Machine) (t : ℕ) : Type 0 where
@@ -73,6 +83,7 @@ pub record Promises (w : NodeView) : Type 0 where
   pub honest : AreHonest w
   pub once : IsCompensatedOnce w.tc.log
   pub unrefused : IsNoneRefused w.tc.log
+  pub replies : AllByRecursion (IsUnrefused w.tc) w.replies
   pub by_log : IsSettled w → IsPlainByLog w
   pub commits : (m : Machine) → NodeStandsFor w m → CommitsStand w m
   pub settled : (m : Machine) → NodeStandsFor w m → IsSettled w → IsPlain w m

@@ -12,10 +12,11 @@ use Rattle.node_sides.specs.node_laws.specs.Kept.{IsKept}
 use Rattle.node_sides.specs.node_laws.specs.Node.{NodeView, StepsTo}
 use Rattle.node_sides.specs.node_laws.specs.Stepping.{IsStep, Chain}
 use Rattle.node_sides.specs.node_laws.proofs.Machine.Headline.{follows}
+use Rattle.node_sides.specs.node_laws.proofs.Stood.{chained, silent}
 use Rattle.pool_journal.specs.declared.step.Step.{Step}
 use Rattle.pool_journal.specs.Ending.{LeavesNode}
 use Rattle.pool_journal.specs.Kept.{is_dc, HandsReply, HandsRequest, EntersTc, EntersDc, IsInRun}
-use Rattle.pool_journal.specs.Steps.{is_tc, events, outs, asked_after, given_after, requests, replies, TcState, DcState, count, TcStep, DcStep, TcAlong, DcAlong, GivesTc, GivesDc, RunsTo, Start, IsStart, tc_start, dc_start}
+use Rattle.pool_journal.specs.Steps.{is_tc, events, outs, asked_after, given_after, requests, replies, TcState, DcState, count, TcStep, DcStep, TcAlong, DcAlong, GivesTc, GivesDc, RunsTo, Start, IsStart, node_at, tc_start, dc_start}
 use Rattle.pool_journal.specs.Views.{Sees}
 use Rattle.pool_journal.proofs.Lists.{map_match, also_length, request_on, reply_on}
 
@@ -226,14 +227,26 @@ merge (e ∷ es) t u s d qs ps sent given k a b =
 pub runs : (start : Start) (es : List Step) (t : TcState) (u : DcState) → IsStart start → GivesTc start es t → GivesDc start es u
     → RunsTo start es (node_of t.side u.side (requests es) (replies es))
 runs start es t u is a b =
-    let m = merge es t u (tc_start start) (dc_start start) [] [] refl refl is a b in
-    record { chain = m.chain; kept = m.kept; requests = refl; replies = refl }
+    let m = merge es t u (tc_start start) (dc_start start) [] [] refl refl is.kept a b in
+    let node = node_of t.side u.side (requests es) (replies es) in record {
+      chain = m.chain;
+      kept = m.kept;
+      stood = chained (node_at start) (events es) (outs es) node m.chain is.stood;
+      requests = refl;
+      replies = refl;
+    }
 
 -- and leaves, once its messages are let go
 pub leaves_node : (start : Start) (es : List Step) (t : TcState) (u : DcState) → IsStart start → GivesTc start es t → GivesDc start es u
     → LeavesNode start es (node_of t.side u.side [] [])
 leaves_node start es t u is a b =
-    record { node = node_of t.side u.side (requests es) (replies es); runs = runs start es t u is a b; left_is = refl }
+    let node = node_of t.side u.side (requests es) (replies es) in
+    let run = runs start es t u is a b in record {
+      node = node;
+      runs = run;
+      left_is = refl;
+      is_node = silent node (record { kept = run.kept; stood = run.stood });
+    }
 
 pub in_run : (start : Start) (es : List Step) (t : TcState) (u : DcState) → IsStart start → GivesTc start es t → GivesDc start es u
     → IsInRun start es u.side

@@ -114,7 +114,7 @@ reply_stays w (says.Checkpointed s l) = either w (is_number w.checkpointing l) _
 
 -- ---- the node's steps
 
-abbrev Rises : NodeView → NodeView → Type 0
+abbrev pub Rises : NodeView → NodeView → Type 0
 Rises old new = old.tc.stable ≤ new.tc.stable
 
 tc_stays : (old new : NodeView) (mid : TcView) → new.tc ≡ mid → mid.stable ≡ old.tc.stable → Rises old new
@@ -264,7 +264,7 @@ if_tc_up : (old new : NodeView) (o : Out) (Does : Type 0) → (Does → Rises ol
     → Rises old new
 if_tc_up old new o Does does h = if_up old new old.tc_up NotConnected o Does does h
 
-rises : (old new : NodeView) (e : Event) (o : Out) → IsTc old.tc → of_tc e ≡ true → StepsTo old e o new → Rises old new
+pub rises : (old new : NodeView) (e : Event) (o : Out) → IsTc old.tc → of_tc e ≡ true → StepsTo old e o new → Rises old new
 rises old new event.Reconnect o k is h = if_tc_up old new o _ (reconnects old new o k) h
 rises old new event.Recover o k is h = if_tc_up old new o _ (recovers old new o) h
 rises old new event.Begin o k is h = if_tc_up old new o _ (begins old new o) h
@@ -289,7 +289,7 @@ rises old new (event.FailTc call) o k is h = fails old new call o h
 rises old new _ o k is h = absurd (true≢false (sym is))
 
 -- what is announced is stable, and the component runs
-announces : (old new : NodeView) (l i : ℕ) → StepsTo old (event.LowWater l) (out.Sent i) new
+pub announces : (old new : NodeView) (l i : ℕ) → StepsTo old (event.LowWater l) (out.Sent i) new
     → (new.tc_up ≡ true) × (l ≤ new.tc.stable)
 announces old new l i h = by old.tc_up refl h
   where

@@ -8,6 +8,7 @@ use Rattle.node_sides.specs.dc_core.specs.DcView.{leaves}
 use Rattle.node_sides.specs.node_laws.specs.Component.{DcSide}
 use Rattle.node_sides.specs.node_laws.specs.Forgetting.{without_messages}
 use Rattle.node_sides.specs.node_laws.specs.Node.{NodeView}
+use Rattle.node_sides.specs.node_laws.specs.Standing.{IsNode}
 use Rattle.pool_journal.specs.declared.step.Step.{Step}
 use Rattle.pool_journal.specs.Kept.{IsInRun}
 use Rattle.pool_journal.specs.Steps.{Start, RunsTo}
@@ -28,3 +29,4 @@ pub record LeavesNode (start : Start) (es : List Step) (left : NodeView) : Type 
   pub node : NodeView
   pub runs : RunsTo start es node
   pub left_is : left ≡ without_messages node
+  pub is_node : IsNode left

@@ -12,6 +12,7 @@ pub mod Waiting
 pub mod Marking
 pub mod Forcing
 pub mod Ending
+pub mod Closing
 pub mod Failing
 pub mod Errands
 pub mod Messages

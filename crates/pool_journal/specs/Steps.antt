@@ -12,6 +12,7 @@ use Rattle.node_sides.specs.node_laws.specs.Component.{TcSide, DcSide}
 use Rattle.node_sides.specs.node_laws.specs.Halves.{node_of, of_tc, also, BringsReply, BringsRequest, TcLeads, DcLeads}
 use Rattle.node_sides.specs.node_laws.specs.Kept.{IsKept}
 use Rattle.node_sides.specs.node_laws.specs.Node.{NodeView}
+use Rattle.node_sides.specs.node_laws.specs.Standing.{StandsForSome, IsNode}
 use Rattle.node_sides.specs.node_laws.specs.Stepping.{Chain}
 use Rattle.pool_journal.specs.declared.step.Step.{Step}
 
@@ -61,9 +62,9 @@ pub record Start : Type 0 where
 abbrev pub node_at : Start → NodeView
 node_at start = node_of start.tc start.dc [] []
 
--- where a journal may begin: the node keeps what a node keeps at every moment
+-- where a journal may begin: what holds of every node holds of it
 abbrev pub IsStart : Start → Type 0
-IsStart start = IsKept (node_at start)
+IsStart start = IsNode (node_at start)
 
 -- both components run, and nothing is logged or stored
 abbrev pub fresh_start : Start
@@ -115,6 +116,7 @@ GivesDc start es s = DcAlong [] (dc_start start) es s
 pub record RunsTo (start : Start) (es : List Step) (w : NodeView) : Type 0 where
   pub chain : Chain (node_at start) (events es) (outs es) w
   pub kept : IsKept w
+  pub stood : StandsForSome w
   pub requests : w.requests ≡ requests es
   pub replies : w.replies ≡ replies es
 

@@ -4,7 +4,7 @@ use Rattle.std.proofs.ByRecursion.{all_from_every, every_from_all}
 use Rattle.std.specs.List.{AllByRecursion}
 use Rattle.boxcar.specs.Table.{Shelves}
 use Rattle.pool_sessions.specs.pool_journal.specs.declared.place.Place.{Place}
-use Rattle.worker_pool.specs.Closing.{below}
+use Rattle.pool_sessions.specs.pool_journal.specs.Closing.{below}
 use Rattle.pool_sessions.specs.pool_journal.specs.Kept.{PlaceKept, PlacesKept}
 use Rattle.worker_pool.specs.Opened.{OpenedView, IsNamed, name_at, tie_name}
 

@@ -1,5 +1,5 @@
 -- What an engine begins with, and what it leaves.
-use Rattle.std.specs.Prelude.{◌≡◌, ℕ, ◌≤◌, zero, suc, List, [], ◌∷◌, ◌++◌, Option, map}
+use Rattle.std.specs.Prelude.{◌≡◌, ℕ, ◌≤◌, List, Option, map}
 use Rattle.std.specs.Global.{Vec}
 use Rattle.record_key.specs.Table.{Bytes}
 use Rattle.atomic_table.specs.Seated.{TableId}
@@ -12,20 +12,8 @@ use Rattle.pool_sessions.specs.pool_journal.specs.declared.step.Step.{Step}
 use Rattle.pool_sessions.specs.pool_journal.specs.Callers.{CallerView, SessionView, IsGrown}
 use Rattle.pool_sessions.specs.pool_journal.specs.Sessions.{part_of, no_part}
 
--- a session that has made no call, and has seen nothing of the marks
-abbrev pub IsFresh : TableId → SessionView → Type 0
-IsFresh marks s = (s.part ≡ no_part) × (s.seat ≡ reader marks 0 0)
-
 abbrev pub IsSeated : {J : Type 0} → TableId → Sitter J → Type 0
 IsSeated marks s = (s.caller.part ≡ no_part) × (s.seat ≡ reader marks 0 0)
-
--- the numbers below one, in order
-abbrev pub below : ℕ → List ℕ
-below zero = []
-below (suc n) = below n ++ n ∷ []
-
-abbrev pub numbers_named : List SessionView → List ℕ
-numbers_named ss = map (λ (s : SessionView). s.number) ss
 
 abbrev pub numbers_in : {J : Type 0} → List (Sitter J) → List ℕ
 numbers_in ss = map (λ s. s.caller.number) ss
@@ -47,9 +35,6 @@ IsAtMarks marks s = s.seat.marks ≡ marks
 -- told. And it hasn't seen the log stable further than it is
 abbrev pub IsCovered : List Step → ℕ → CallerView × ℕ → Type 0
 IsCovered es stable s = IsGrown s.0.part (part_of s.0.number es) × (s.1 ≤ stable)
-
-abbrev pub IsKeptBy : List Step → ℕ → SessionView → Type 0
-IsKeptBy es stable s = IsGrown s.part (part_of s.number es) × (s.seat.stable ≤ stable)
 
 -- the journal, and the node at its end with its records
 pub record ClosedView : Type 0 where

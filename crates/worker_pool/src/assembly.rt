@@ -1,7 +1,8 @@
 //! What an engine's threads share, made of what was opened.
 ghost use Rattle.std.specs.Prelude.{◌≡◌, [], IfOk};
 ghost use Rattle.std.specs.List.{AllByRecursion};
-ghost use Rattle.worker_pool.specs.Closing.{IsSeated, below, numbers_in};
+ghost use Rattle.pool_sessions.specs.pool_journal.specs.Closing.{below};
+ghost use Rattle.worker_pool.specs.Closing.{IsSeated, numbers_in};
 ghost use Rattle.worker_pool.specs.Opened.{IsNamed};
 
 use crate::opened::{Opened, Start};

@@ -9,7 +9,7 @@ ghost use Rattle.pool_sessions.specs.pool_journal.specs.Slots.{Slot};
 ghost use Rattle.pool_sessions.specs.pool_journal.specs.Witnessed.{LeftBytes, WereUp};
 ghost use Rattle.pool_sessions.specs.shared_node.specs.Entered.{IsEntered};
 ghost use Rattle.pool_sessions.specs.shared_node.specs.Outages.{IsOutage};
-ghost use Rattle.worker_pool.specs.Closing.{IsFresh, IsKeptBy, below, numbers_named};
+ghost use Rattle.pool_sessions.specs.pool_journal.specs.Closing.{IsFresh, IsKeptBy, below, numbers_named};
 ghost use Rattle.worker_pool.specs.Opened.{IsNamed};
 
 use crate::assembly::share;
@@ -29,7 +29,6 @@ use std::sync::{Arc, Wait};
 use std::thread;
 use std::thread::{JoinHandle, Threads};
 use world::World;
-use world::node_laws::forgetting_law;
 
 /// Workers that serve the sessions' requests. What its sessions are called with is given out with it. Contracts see its
 /// commands, in order: the crashes that it made, and the failures that it set.
@@ -105,7 +104,6 @@ fn node_of_desks<J: Naming, D: CrashLog + Drop, P: CrashPages + Drop>(
     let transactions = tc.into_side(row, journal);
     let data = dc.into_side(row, journal);
     journal.leaves(&transactions, &data);
-    forgetting_law();
     Ok(Box::new(alloc, World::of(alloc, transactions, data))?)
 }
 

@@ -1,7 +1,8 @@
 //! The places and callers of an engine's sessions.
 ghost use Rattle.std.specs.Prelude.{◌≡◌, ◌≤◌, [], IfOk, length, vec_len};
 ghost use Rattle.std.specs.List.{AllByRecursion};
-ghost use Rattle.worker_pool.specs.Closing.{IsAtMarks, IsCovered, IsFresh, IsSeated, below, numbers_in, numbers_named, seen_as, seen_by};
+ghost use Rattle.pool_sessions.specs.pool_journal.specs.Closing.{IsFresh, below, numbers_named};
+ghost use Rattle.worker_pool.specs.Closing.{IsAtMarks, IsCovered, IsSeated, numbers_in, seen_as, seen_by};
 ghost use Rattle.pool_sessions.specs.pool_journal.specs.Kept.{PlacesKept};
 ghost use Rattle.worker_pool.specs.Opened.{AreTied, ReadsMarks, ties_of};
 

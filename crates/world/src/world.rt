@@ -9,10 +9,13 @@ ghost use Rattle.page.specs.Leaf.{first};
 ghost use Rattle.btree.specs.Leaves.{rows_of};
 ghost use Rattle.node_sides.specs.dc_core.specs.DcView.{leaves};
 ghost use Rattle.node_sides.specs.tc_core.specs.Causes.{begin_refusal};
+ghost use Rattle.node_sides.specs.tc_core.specs.LowWater.{IsGreatestAnnounced};
+ghost use Rattle.node_sides.specs.node_laws.specs.Component.{LeavesBytes};
 ghost use Rattle.node_sides.specs.node_laws.specs.Halves.{node_of};
 ghost use Rattle.node_sides.specs.node_laws.specs.Forgetting.{without_messages};
 ghost use Rattle.node_sides.specs.node_laws.specs.Node.{fresh_node, joined, if_up};
 ghost use Rattle.node_sides.specs.node_laws.specs.Simulation.{NodeStandsFor};
+ghost use Rattle.node_sides.specs.node_laws.specs.Standing.{IsNode, StandsForSome};
 ghost use Rattle.node_sides.specs.node_laws.specs.Stepping.{IsStep};
 ghost use Rattle.simulation.specs.Reading.{machine_read};
 ghost use Rattle.node_sides.specs.node_laws.specs.Kept.{IsKept, IsRebuildable, IsFreshDc};
@@ -42,7 +45,7 @@ impl<D: CrashLog, P: CrashPages> Model for World<D, P> {
     ghost use Rattle.record_key.specs.Table.{table_code};
     ghost use Rattle.node_sides.specs.system_txn.specs.SystemView.{pages_code};
     ghost use Rattle.node_sides.specs.node_laws.specs.Node.{NodeView};
-    ghost use Rattle.node_sides.specs.node_laws.specs.Kept.{IsKept};
+    ghost use Rattle.node_sides.specs.node_laws.specs.Standing.{IsNode};
     ghost use Rattle.world.specs.Seen.{seen};
 
     ghost Value = { NodeView };
@@ -51,7 +54,7 @@ impl<D: CrashLog, P: CrashPages> Model for World<D, P> {
 
     ghost view = { λ w. seen w.node };
 
-    ghost invariant = { λ w. IsKept (seen w.node) };
+    ghost invariant = { λ w. IsNode (seen w.node) };
 }
 
 impl World<MemLog, MemPages> {
@@ -86,7 +89,7 @@ impl<D: CrashLog, P: CrashPages> World<D, P> {
 
     /// A node of the two components of one that was parted. No message is on its way.
     pub fn of(alloc: Global, tc: TcSide<D>, dc: DcSide<D, P>) -> World<D, P>
-        requires kept { IsKept (node_of tc dc [] []) }
+        requires kept { IsNode (node_of tc dc [] []) }
         ensures { result ≡ node_of tc dc [] [] }
     {
         World {
@@ -97,7 +100,7 @@ impl<D: CrashLog, P: CrashPages> World<D, P> {
     /// The two components apart; every message between them is let go. What holds of the node is handed on with them.
     pub fn parted(self) -> (TcSide<D>, DcSide<D, P>)
         ensures node { without_messages self ≡ node_of result.0 result.1 [] [] }
-        ensures kept { IsKept (node_of result.0 result.1 [] []) }
+        ensures kept { IsNode (node_of result.0 result.1 [] []) }
     {
         forgetting_law();
         let World { node } = self;
@@ -146,6 +149,13 @@ impl<D: CrashLog, P: CrashPages> World<D, P> {
     pub fn kept(&self)
         ensures kept { IsKept self.now }
         ensures promised { Promises self.now }
+    {
+        let _ = &self.node;
+    }
+
+    /// There is a list machine that the node stands for: what `kept` promises of each holds of one.
+    pub fn stood(&self)
+        ensures { StandsForSome self.now }
     {
         let _ = &self.node;
     }
@@ -254,6 +264,27 @@ impl<D: CrashLog, P: CrashPages> World<D, P> {
         ensures down { OnErr result (self.now.tc_up ≡ false) }
     {
         self.node.tc.stable_end()
+    }
+
+    /// The greatest number that a LowWater may announce, 0 where clients aren't served. Refused NotConnected.
+    pub fn greatest_low(&self) -> Result<u64, Refusal>
+        ensures low { IfOk result (IsGreatestAnnounced self.now.tc) }
+        ensures up { OnOk result (self.now.tc_up ≡ true) }
+        ensures refused { IfErr result (λ refusal. refusal ≡ Refusal.NotConnected) }
+        ensures down { OnErr result (self.now.tc_up ≡ false) }
+    {
+        self.node.tc.greatest_low()
+    }
+
+    /// By how many whole records and how many bytes of the next one a crash keeps so many bytes of what isn't stable of the
+    /// log, or all of it where it has fewer. Refused NotConnected.
+    pub fn cut_after(&self, kept: u64) -> Result<(u64, u64), Refusal>
+        ensures leaves { IfOk result (λ cut. LeavesBytes self.now.tc kept cut.0 cut.1) }
+        ensures up { OnOk result (self.now.tc_up ≡ true) }
+        ensures refused { IfErr result (λ refusal. refusal ≡ Refusal.NotConnected) }
+        ensures down { OnErr result (self.now.tc_up ≡ false) }
+    {
+        self.node.tc.cut_after(kept)
     }
 
     /// The bytes of the stable records, as docs/FORMATS.md spells them: what whoever keeps the log outside has to keep.

@@ -1,5 +1,5 @@
 -- What holds of a node at every moment is what it promises.
-use Rattle.std.proofs.Common.{◌≡◌, ℕ, ◌+◌, List, [], ◌∷◌, length, Some, sym, ap, subst, inl, inr}
+use Rattle.std.proofs.Common.{◌≡◌, ℕ, ◌+◌, List, [], ◌∷◌, length, Some, None, sym, ap, subst, inl, inr}
 use Rattle.std.proofs.lemmas.Bool.{cases_eq}
 use Rattle.record_key.specs.declared.op.Op.{Op}
 use Rattle.record_key.specs.Table.{Bytes, key_of, answer_at}
@@ -17,9 +17,11 @@ use Rattle.log_laws.proofs.Records.{newest_at, older_at, before_new, before_old}
 use Rattle.log_laws.proofs.Values.{right_at}
 use Rattle.simulation.proofs.Committing.{stable_is_committed}
 use Rattle.simulation.proofs.Viewing.{calm_entries}
-use Rattle.node_laws.specs.Kept.{IsKept}
+use Rattle.codec.specs.declared.reply.Reply.{Reply}
+use Rattle.codec.specs.declared.reply.Reply.TheVariants as says
+use Rattle.node_laws.specs.Kept.{IsKept, StaysTrue}
 use Rattle.node_laws.specs.Node.{NodeView}
-use Rattle.node_laws.specs.Promises.{IsNoneRefused, Promises, KeptPromises}
+use Rattle.node_laws.specs.Promises.{IsNoneRefused, IsUnrefused, KeptPromises}
 use Rattle.node_laws.specs.Simulation.{clients}
 use Rattle.std.specs.List.{AllByRecursion}
 use Rattle.page.specs.Honest.{IsHonestLeaf}
@@ -60,6 +62,25 @@ none_refused log legal right n t u x i a at answered =
     let asks : Requests log n i = ap request_in at in
     subst IsEffective (sym (right_at log n a legal right answered i asks)) (effective_at log legal right n t u x i at)
 
+-- and what is replied to it is what it is answered
+unrefused : (w : NodeView) (x : Source) → IsLegal w.tc.log → HasRightAnswers w.tc.log → (r : Reply)
+    → StaysTrue w.tc w.dc x r → IsUnrefused w.tc r
+unrefused w x legal right (says.Answered s n (Some a)) stays = λ unwaiting same t u m i at.
+    let asks : Requests w.tc.log n i = ap request_in at in
+    subst IsEffective (sym ((stays.own unwaiting same).answer i asks)) (effective_at w.tc.log legal right n t u m i at)
+unrefused w x legal right (says.Answered s n None) stays = tt
+unrefused w x legal right (says.Connected s) stays = tt
+unrefused w x legal right (says.Row s n v) stays = tt
+unrefused w x legal right (says.Rows s n rows) stays = tt
+unrefused w x legal right (says.Checkpointed s l) stays = tt
+unrefused w x legal right (says.RedoEnded s) stays = tt
+
+all_unrefused : (w : NodeView) (x : Source) → IsLegal w.tc.log → HasRightAnswers w.tc.log → (rs : List Reply)
+    → AllByRecursion (StaysTrue w.tc w.dc x) rs → AllByRecursion (IsUnrefused w.tc) rs
+all_unrefused w x legal right [] all = tt
+all_unrefused w x legal right (r ∷ rs) all =
+    (unrefused w x legal right r all.0, all_unrefused w x legal right rs all.1)
+
 pub promised : KeptPromises
 promised w k = record {
   honest = record {
@@ -71,6 +92,7 @@ promised w k = record {
   };
   once = λ n m undoes one two. compensated_once w.tc.log n m undoes k.tc.legal one two;
   unrefused = none_refused w.tc.log k.tc.legal k.right;
+  replies = all_unrefused w k.source k.tc.legal k.right w.replies k.given;
   by_log = settled_by_log w k;
   commits = λ m stands t n at stable.
       let both = stable_is_committed (clients w.tc) m t n k.tc.legal stands at stable in

@@ -2,7 +2,7 @@ use Rattle.std.proofs.Common.{◌≡◌, ◌∙◌, ℕ, zero, suc, [], ◌∷�
 use Rattle.std.proofs.lemmas.List.{length-map}
 use Rattle.std.proofs.lemmas.Grind.{common_steps}
 use Rattle.worker_pool.specs.pool_journal.specs.Callers.{SessionView}
-use Rattle.worker_pool.specs.Closing.{below}
+use Rattle.worker_pool.specs.pool_journal.specs.Closing.{below}
 use Rattle.pool_shell.proofs.pool_run.play_out.Goals as goal
 
 length-below : (n : ℕ) → length (below n) ≡ n

@@ -1,6 +1,7 @@
 use Rattle.std.proofs.Common.{◌≡◌, ◌+◌, [], length}
 use Rattle.std.specs.List.{AllByRecursion}
-use Rattle.worker_pool.specs.Closing.{IsSeated, below, numbers_in}
+use Rattle.pool_sessions.specs.pool_journal.specs.Closing.{below}
+use Rattle.worker_pool.specs.Closing.{IsSeated, numbers_in}
 use Rattle.pool_sessions.specs.pool_journal.specs.Kept.{PlacesKept}
 use Rattle.worker_pool.specs.Opened.{ReadsMarks, ties_of}
 use Rattle.worker_pool.proofs.Opening.{TiedFrom}

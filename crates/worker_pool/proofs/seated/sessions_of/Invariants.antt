@@ -1,6 +1,7 @@
 use Rattle.std.proofs.Common.{◌≡◌, ◌++◌}
 use Rattle.std.specs.List.{AllByRecursion}
-use Rattle.worker_pool.specs.Closing.{IsFresh, IsSeated, numbers_in, numbers_named}
+use Rattle.pool_sessions.specs.pool_journal.specs.Closing.{IsFresh, numbers_named}
+use Rattle.worker_pool.specs.Closing.{IsSeated, numbers_in}
 use Rattle.worker_pool.proofs.seated.sessions_of.Given as goal
 
 -- those so far have made no call

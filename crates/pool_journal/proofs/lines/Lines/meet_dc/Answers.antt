@@ -1,10 +1,33 @@
-use Rattle.std.proofs.Common.{List, sym, subst}
+use Rattle.std.proofs.Common.{rules, List, sym, ap, ◌∙◌, subst}
 use Rattle.pool_journal.specs.declared.step.Step.{Step}
-use Rattle.pool_journal.specs.Kept.{IsInRun}
+use Rattle.pool_journal.specs.Kept.{IsInRun, is_dc}
+use Rattle.pool_journal.specs.Slots.{Slot, last_of, steps}
 use Rattle.pool_journal.specs.Steps.{DcState, GivesDc}
 use Rattle.pool_journal.specs.Views.{View}
-use Rattle.pool_journal.proofs.Entering.{lines_in_run}
+use Rattle.pool_journal.proofs.Entering.{last_seen, lines_in_run, sees_all}
 use Rattle.pool_journal.proofs.lines.Lines.meet_dc.Goals as goal
+
+pub invariant_of-self : goal.invariant_of-self
+invariant_of-self g c =
+    let J = g.J.Naming in
+    let s = c.self.inside in
+    let k = c.self.invariant in record {
+      shown = k.shown;
+      last = k.last;
+      asked_are = k.asked_are;
+      given_are = k.given_are;
+      starts = k.starts;
+      gives_tc = k.gives_tc;
+      gives_dc = k.gives_dc;
+      tc_name = k.tc_name;
+      dc_name = search rules;
+      tc_sees = k.tc_sees;
+      dc_sees =
+          sees_all is_dc c.meet.new.self.steps (steps s.tokens.items)
+          (sym (ap (λ (v : View). v.steps) c.meet.ensures.party
+          ∙ last_seen J.start J.entries J.names s.tokens.items s.asked.items s.given.items s.tc s.dc k c.last_of-last.result
+          (c.last_of-last.ensures ∙ ap (λ (xs : List Slot). last_of xs) c.deref.ensures.value)));
+    }
 
 pub returns-clause-run : goal.returns-clause-run
 returns-clause-run g c =

@@ -1,6 +1,7 @@
 use Rattle.std.proofs.Common.{◌≡◌, ◌∙◌, ℕ, List, ap, sym, subst}
 use Rattle.std.specs.List.{AllByRecursion}
-use Rattle.worker_pool.specs.Closing.{ClosedView, IsCovered, IsKeptBy, seen_of}
+use Rattle.pool_sessions.specs.pool_journal.specs.Closing.{IsKeptBy}
+use Rattle.worker_pool.specs.Closing.{ClosedView, IsCovered, seen_of}
 use Rattle.pool_sessions.specs.pool_journal.specs.declared.step.Step.{Step}
 use Rattle.pool_sessions.specs.pool_journal.specs.Steps.{TcState}
 use Rattle.pool_sessions.specs.pool_journal.proofs.Entering.{on_ok}
