@@ -4,6 +4,7 @@ and which stores it makes. Prints a line for each case that differs, and how man
 """
 import os
 import pty
+import re
 import resource
 import shutil
 import signal
@@ -229,6 +230,48 @@ class Cases:
         shown = text.replace(b"\r", b"").replace(b"^D", b"").replace(b"\b", b"")
         self.judge("a terminal", (shown, os.WEXITSTATUS(status)), (b"> settle\nsettled\n> table\nrows 0\n> \n", 0))
 
+    def told_on_terminal(self, words):
+        """What is told on standard error where that is a terminal."""
+        ours, theirs = pty.openpty()
+        process = subprocess.Popen([self.shell, *words.split()], stdin=subprocess.DEVNULL, stdout=subprocess.DEVNULL,
+                                   stderr=theirs)
+        os.close(theirs)
+        text = b""
+        try:
+            while more := os.read(ours, 4096):
+                text += more
+        except OSError:  # (so a terminal ends)
+            pass
+        os.close(ours)
+        return text, process.wait(timeout=60)
+
+    def far(self):
+        """How far an opening is that takes long, on a terminal alone."""
+        count = 300000
+        rows = "".join(f"k{number:06}=v{number}\n" for number in range(count))
+        self.run("load --create --store long", f"{rows}rows {count}\n", 0, f"{count} records are put\n")
+        self.run("load --create --store short", "a=1\nrows 1\n", 0, "1 records are put\n")
+        for task in ("run --read-only", "check", "stat", "dump"):
+            self.run(f"{task} --store long", "", 0)
+            self.judge(f"{task} of a short log on a terminal", self.told_on_terminal(f"{task} --store short"), (b"", 0))
+        length = os.path.getsize("long/log") - 32 * self.blocks("long")
+        first = f"\r{length} bytes of log are read\r\x1b[K".encode()
+        for task in ("run --read-only", "check", "stat", "dump"):
+            text, status = self.told_on_terminal(f"{task} --store long")
+            self.judge(f"{task} of a long log on a terminal",
+                       (text[:len(first)], re.fullmatch(rb"(\r[0-9]+ [a-z ]+|\r\x1b\[K)*\r\x1b\[K", text) is not None, status),
+                       (first, True, 0))
+
+    def blocks(self, folder):
+        """How many blocks of version 2 a store's file has."""
+        with open(f"{folder}/log", "rb") as file:
+            data = file.read()
+        place = count = 0
+        while place < len(data):
+            place += 32 + struct.unpack_from(">Q", data, place + 8)[0]
+            count += 1
+        return count
+
     def places(self):
         """Whole blocks of bytes that are no record: the place that is told is the file's."""
         os.mkdir("bad")
@@ -257,6 +300,7 @@ def main(shell):
     cases.dumped()
     cases.conversing()
     cases.on_terminal()
+    cases.far()
     cases.places()
     print(f"what is told: {cases.agree} agree, {cases.differ} differ")
     return 1 if cases.differ else 0

@@ -15,6 +15,7 @@ A script is lines; empty lines and lines that begin with # are skipped.
   get T K       asks for the value of the record K
   scan T K K    asks for the records from the first key on, below the second
   scan T K *    asks for the records from K on
+  prefix T K    asks for the records whose keys begin with K
   save T        sets a savepoint of transaction T, and prints its number
   back T N      rolls transaction T back to its savepoint N
   rollback T    rolls transaction T back
@@ -46,6 +47,10 @@ A script is lines; empty lines and lines that begin with # are skipped.
   table         prints each record of the data component
   log           prints each record of the transaction log
   leaves        prints each leaf of the data component
+
+Behind scan or prefix may stand how its records are told: back, the last one first;
+first N, so many at most; last N, so many at most, the last one first; or count, just
+how many they are.
 
 T is 1 to 8 lower case letters or digits. K and V are letters and digits, a dot for
 the empty text, or # and 1 to 120 bytes, each as two lower case hexadecimal digits; a

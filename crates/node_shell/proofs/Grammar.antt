@@ -44,15 +44,16 @@ cut_there p xs place e = cut_by p xs place (nat_lt (position_or_len p xs) (lengt
 some_part : (xs : List ℕ) (p : ℕ → Bool) → 0 < length (slice_split p xs)
 some_part xs p = omega (arith, length-slice_split p xs)
 
-too_many : (name label key value : List ℕ) (more : List (List ℕ)) → 0 < length more
-    → None ≡ command_of (name ∷ label ∷ key ∷ value ∷ more)
-too_many name label key value [] h = absurd (omega arith)
-too_many name label key value (x ∷ xs) h = refl
+too_many : (name a b c d e : List ℕ) (more : List (List ℕ)) → 0 < length more
+    → None ≡ command_of (name ∷ a ∷ b ∷ c ∷ d ∷ e ∷ more)
+too_many name a b c d e [] h = absurd (omega arith)
+too_many name a b c d e (x ∷ xs) h = refl
 
--- five words are no line
-pub five_words : (name label key rest value more : List ℕ) (o : Option (List ℕ))
-    → words_of rest ≡ value ∷ parts_left 32 o → o ≡ Some more → None ≡ command_of (name ∷ label ∷ key ∷ words_of rest)
-five_words name label key rest value more o first e =
-    let words : words_of rest ≡ value ∷ words_of more = first ∙ ap (λ v. value ∷ parts_left 32 v) e in
-    too_many name label key value (words_of more) (some_part more (λ b. b == 32))
-    ∙ ap (λ v. command_of (name ∷ label ∷ key ∷ v)) (sym words)
+-- seven words are no line
+pub seven_words : (name a b c d rest e more : List ℕ) (o : Option (List ℕ))
+    → words_of rest ≡ e ∷ parts_left 32 o → o ≡ Some more
+    → None ≡ command_of (name ∷ a ∷ b ∷ c ∷ d ∷ words_of rest)
+seven_words name a b c d rest e more o first is =
+    let words : words_of rest ≡ e ∷ words_of more = first ∙ ap (λ v. e ∷ parts_left 32 v) is in
+    too_many name a b c d e (words_of more) (some_part more (λ b. b == 32))
+    ∙ ap (λ v. command_of (name ∷ a ∷ b ∷ c ∷ d ∷ v)) (sym words)

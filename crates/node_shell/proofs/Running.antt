@@ -4,6 +4,7 @@ use Rattle.std.specs.Prelude.{◌&&◌}
 use Rattle.std.specs.Io.KnownBytes.{Appends}
 use Rattle.record_key.specs.declared.refusal.Refusal.{Refusal}
 use Rattle.record_key.specs.declared.refusal.Refusal.TheVariants as refusal
+use Rattle.world.specs.node_laws.specs.Kept.{IsKept}
 use Rattle.world.specs.node_laws.specs.Node.{NodeView, fresh_node}
 use Rattle.node_shell.specs.declared.line_result.LineResult.{LineResult}
 use Rattle.node_shell.specs.Labels.{AreSameBindings, Bindings, unbound}
@@ -16,18 +17,18 @@ use Rattle.node_shell.proofs.Telling.{led_run, told_run}
 -- a line whose text was written
 pub written_line : {E : Type 0} (o : Option Command) (c : Command) (view : NodeView) (labels : Bindings) (r : LineResult)
     (after : NodeView) (next : Bindings) (old new : Option (List ℕ))
-    → o ≡ Some c → ComesTo c view labels r after next → Appends old new (result_text r after)
+    → o ≡ Some c → ComesTo c view labels r after next → Appends old new (result_text r after next.scans)
     → WritesLine {E = E} (Ok (has_failed r)) o view labels after next old new
 written_line o c view labels r after next old new e came h = record {
-  said = result_text r after;
+  said = result_text r after next.scans;
   appended = h;
   runs = λ continues. record {
     goes_on = λ may cs text status k. let P : Option Command → Type 0 =
-        λ q. Runs continues (onto q cs) view labels (result_text r after ++ text) (status_after (has_failed r) status)
+        λ q. Runs continues (onto q cs) view labels (result_text r after next.scans ++ text) (status_after (has_failed r) status)
         in
         subst P (sym e) (goes_on c cs view labels r after next text status came may k);
     ends = λ failed over cs. let P : Option Command → Type 0 =
-        λ q. Runs continues (onto q cs) view labels (result_text r after) 3 in
+        λ q. Runs continues (onto q cs) view labels (result_text r after next.scans) 3 in
         subst P (sym e) (fails c cs view labels r after next came failed over);
   };
 }
@@ -35,7 +36,7 @@ written_line o c view labels r after next old new e came h = record {
 -- a line whose text was cut
 pub cut_line : {E : Type 0} (error : E) (o : Option Command) (c : Command) (view : NodeView) (labels : Bindings)
     (r : LineResult) (after : NodeView) (next : Bindings) (old new : Option (List ℕ))
-    → o ≡ Some c → ComesTo c view labels r after next → IsCut old new (result_text r after)
+    → o ≡ Some c → ComesTo c view labels r after next → IsCut old new (result_text r after next.scans)
     → WritesLine (Err error) o view labels after next old new
 cut_line error o c view labels r after next old new e came h = record {
   said = h.written;
@@ -156,12 +157,12 @@ unread continues view labels given old new r status (inr e) h =
 
 -- a script without a fault that was run
 pub ran : (continues : Bool) (view : NodeView) (labels : Bindings) (given old new : Option (List ℕ)) (script : List ℕ)
-    (status : ℕ) → IsAllOf given script → first_fault script ≡ None
+    (status : ℕ) → IsKept view → IsAllOf given script → first_fault script ≡ None
     → WritesRun continues (commands_of (lines_from script)) view labels old new status
     → WritesTextFrom continues view labels given old new status
-ran continues view labels given old new script status all ok h =
+ran continues view labels given old new script status k all ok h =
     let P : Option ℕ → Type 0 = λ fault. IsCheckedFrom continues view labels fault script h.text status in
-    let led = led_run continues (commands_of (lines_from script)) view labels h.text status h.runs in
+    let led = led_run continues (commands_of (lines_from script)) view labels h.text status k h.runs in
     record { text = h.text; appended = h.appended; is_text = inl (script, all, subst P (sym ok) led) }
 
 -- on a new node

@@ -27,7 +27,10 @@ answered_line number answer = concat (codes "answer " ∷ decimal number ∷ cod
 abbrev pub value_line : ℕ → Option (List ℕ) → List ℕ
 value_line txn value = concat (codes "row " ∷ decimal txn ∷ codes " " ∷ shown_if value ∷ codes "\n" ∷ [])
 
+-- a word, a transaction, and how many rows it is told of
+abbrev pub counted_line : List ℕ → ℕ → ℕ → List ℕ
+counted_line word txn count = concat (word ∷ decimal txn ∷ codes " " ∷ decimal count ∷ codes "\n" ∷ [])
+
 -- the rows that a transaction asked for, and first how many they are
 abbrev pub found_text : ℕ → List Row → List ℕ
-found_text txn rows = concat (codes "rows " ∷ decimal txn ∷ codes " " ∷ decimal (length rows) ∷ codes "\n" ∷ [])
-    ++ flat_map row_line rows
+found_text txn rows = counted_line (codes "rows ") txn (length rows) ++ flat_map row_line rows

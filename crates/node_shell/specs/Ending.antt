@@ -4,7 +4,8 @@ use Rattle.record_key.specs.declared.refusal.Refusal.{Refusal}
 use Rattle.record_key.specs.declared.refusal.Refusal.TheVariants as refusal
 use Rattle.world.specs.node_laws.specs.declared.event.Out.{Out}
 use Rattle.node_shell.specs.Printed.{refusal_line}
-use Rattle.node_shell.specs.Told.{told_text}
+use Rattle.node_shell.specs.declared.looks.Scan.{Scan}
+use Rattle.node_shell.specs.Looked.{told_so}
 
 -- no round is left, or as many were played as may be, or why it could not go on
 abbrev pub end_line : Result Bool Refusal → List ℕ
@@ -12,8 +13,8 @@ end_line (Ok true) = codes "settled\n"
 end_line (Ok false) = codes "paused\n"
 end_line (Err r) = refusal_line r
 
-abbrev pub settled_text : List Out → Result Bool Refusal → List ℕ
-settled_text outs end = flat_map told_text outs ++ end_line end
+abbrev pub settled_text : List Scan → List Out → Result Bool Refusal → List ℕ
+settled_text scans outs end = flat_map (told_so scans) outs ++ end_line end
 
 -- memory or a device failed
 abbrev pub is_failure : Refusal → Bool

@@ -1,9 +1,11 @@
 pub mod Words
 pub mod Script
+pub mod Looks
 pub mod Labels
 pub mod Printed
 pub mod Answers
 pub mod Told
+pub mod Looked
 pub mod Outcome
 pub mod Logged
 pub mod Stored

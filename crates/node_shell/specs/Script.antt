@@ -16,6 +16,8 @@ use Rattle.node_shell.specs.declared.line.Device.{Device}
 use Rattle.node_shell.specs.declared.line.Device.TheVariants as device
 use Rattle.node_shell.specs.declared.line.Part.{Part}
 use Rattle.node_shell.specs.declared.line.Part.TheVariants as part
+use Rattle.node_shell.specs.declared.line.Look.{Look}
+use Rattle.node_shell.specs.declared.line.Look.TheVariants as look
 use Rattle.node_shell.specs.declared.line.Written.{Written}
 use Rattle.node_shell.specs.declared.line.Written.TheVariants as written
 use Rattle.node_shell.specs.declared.line.Line.{Line}
@@ -36,8 +38,10 @@ pub data Command : Type 0 where
   adds : List ℕ → List ℕ → ℕ → Command
   -- the value at a key, for this label's transaction
   gets : List ℕ → List ℕ → Command
-  -- the rows from a key on, below another or to the end, for this label's transaction
-  scans : List ℕ → List ℕ → Option (List ℕ) → Command
+  -- the rows from a key on, below another or to the end, for this label's transaction, to be told so
+  scans : List ℕ → List ℕ → Option (List ℕ) → Look → Command
+  -- the rows whose keys begin with a text
+  prefixes : List ℕ → List ℕ → Look → Command
   -- an event of this label's transaction
   calls : List ℕ → Call → Command
   -- what happens to the leaf that has a key
@@ -155,7 +159,8 @@ with_key name None key = None
 with_key name (Some label) None = None
 with_key name (Some label) (Some key) =
     if bytes_eq name (codes "get") then Some (gets label key)
-    else (if bytes_eq name (codes "delete") then Some (writes label kind.Delete key []) else None)
+    else (if bytes_eq name (codes "delete") then Some (writes label kind.Delete key [])
+    else (if bytes_eq name (codes "prefix") then Some (prefixes label key look.All) else None))
 
 -- a line of three words, a label and a savepoint behind its name
 abbrev pub with_savepoint : List ℕ → Option (List ℕ) → Option ℕ → Option Command
@@ -184,11 +189,31 @@ add_of (Some label) None amount = None
 add_of (Some label) (Some key) None = None
 add_of (Some label) (Some key) (Some amount) = Some (adds label key amount)
 
-abbrev pub scan_of : Option (List ℕ) → Option (List ℕ) → Option (Option (List ℕ)) → Option Command
-scan_of None low high = None
-scan_of (Some label) None high = None
-scan_of (Some label) (Some low) None = None
-scan_of (Some label) (Some low) (Some high) = Some (scans label low high)
+-- how rows are told, by one word
+abbrev pub look_in : List ℕ → Option Look
+look_in word =
+    if bytes_eq word (codes "back") then Some look.Back
+    else (if bytes_eq word (codes "count") then Some look.Count else None)
+
+-- and by a word and a number
+abbrev pub limit_in : List ℕ → Option ℕ → Option Look
+limit_in word None = None
+limit_in word (Some most) =
+    if bytes_eq word (codes "first") then Some (look.First most)
+    else (if bytes_eq word (codes "last") then Some (look.Last most) else None)
+
+abbrev pub scan_of : Option (List ℕ) → Option (List ℕ) → Option (Option (List ℕ)) → Option Look → Option Command
+scan_of label low high None = None
+scan_of None low high (Some k) = None
+scan_of (Some label) None high (Some k) = None
+scan_of (Some label) (Some low) None (Some k) = None
+scan_of (Some label) (Some low) (Some high) (Some k) = Some (scans label low high k)
+
+abbrev pub prefix_of : Option (List ℕ) → Option (List ℕ) → Option Look → Option Command
+prefix_of label text None = None
+prefix_of None text (Some k) = None
+prefix_of (Some label) None (Some k) = None
+prefix_of (Some label) (Some text) (Some k) = Some (prefixes label text k)
 
 abbrev pub crash_in : Option Component → Option ℕ → Option ℕ → Option Command
 crash_in None frames bytes = None
@@ -212,10 +237,24 @@ of_three name first second =
 -- a line of four words
 abbrev pub of_four : List ℕ → List ℕ → List ℕ → List ℕ → Option Command
 of_four name first second last =
-    if bytes_eq name (codes "scan") then scan_of (label_in first) (written_in second) (end_in last)
+    if bytes_eq name (codes "scan") then scan_of (label_in first) (written_in second) (end_in last) (Some look.All)
+    else (if bytes_eq name (codes "prefix") then prefix_of (label_in first) (written_in second) (look_in last)
     else (if bytes_eq name (codes "crash") then crash_in (component_in first) (number_in second) (number_in last)
     else (if bytes_eq name (codes "add") then add_of (label_in first) (written_in second) (amount_written last)
-    else write_of (kind_with_value name) (label_in first) (written_in second) (written_in last)))
+    else write_of (kind_with_value name) (label_in first) (written_in second) (written_in last))))
+
+-- a line of five words
+abbrev pub of_five : List ℕ → List ℕ → List ℕ → List ℕ → List ℕ → Option Command
+of_five name first second third fourth =
+    if bytes_eq name (codes "scan") then scan_of (label_in first) (written_in second) (end_in third) (look_in fourth)
+    else (if bytes_eq name (codes "prefix")
+    then prefix_of (label_in first) (written_in second) (limit_in third (number_in fourth)) else None)
+
+-- a line of six words
+abbrev pub of_six : List ℕ → List ℕ → List ℕ → List ℕ → List ℕ → List ℕ → Option Command
+of_six name first second third fourth fifth =
+    if bytes_eq name (codes "scan")
+    then scan_of (label_in first) (written_in second) (end_in third) (limit_in fourth (number_in fifth)) else None
 
 -- the grammar: one case for each number of words
 abbrev pub command_of : List (List ℕ) → Option Command
@@ -223,6 +262,8 @@ command_of (name ∷ []) = bare name
 command_of (name ∷ word ∷ []) = first_command (with_label name (label_in word)) (unlabelled name word)
 command_of (name ∷ first ∷ second ∷ []) = of_three name first second
 command_of (name ∷ first ∷ second ∷ last ∷ []) = of_four name first second last
+command_of (name ∷ first ∷ second ∷ third ∷ fourth ∷ []) = of_five name first second third fourth
+command_of (name ∷ first ∷ second ∷ third ∷ fourth ∷ fifth ∷ []) = of_six name first second third fourth fifth
 command_of _ = None
 
 -- a line that is passed over: an empty one, or one that begins with `#`
@@ -265,7 +306,8 @@ meaning (line.Begin label) = begins label
 meaning (line.Write label k key value) = writes label k (written_bytes key) (written_bytes value)
 meaning (line.Add label key amount) = adds label (written_bytes key) amount
 meaning (line.Get label key) = gets label (written_bytes key)
-meaning (line.Scan label low high) = scans label (written_bytes low) (option_map written_bytes high)
+meaning (line.Scan label low high k) = scans label (written_bytes low) (option_map written_bytes high) k
+meaning (line.Prefix label text k) = prefixes label (written_bytes text) k
 meaning (line.Call label c) = calls label c
 meaning (line.Leaf c key) = treats c (written_bytes key)
 meaning (line.Step e) = steps e

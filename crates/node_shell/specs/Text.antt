@@ -6,32 +6,37 @@ use Rattle.record_key.specs.declared.refusal.Refusal.TheVariants as refusal
 use Rattle.record_key.specs.FirstCause.{first_of}
 use Rattle.record_key.specs.declared.op.Op.{Op}
 use Rattle.record_key.specs.declared.op.Op.TheVariants as op
-use Rattle.history.specs.ListMachine.{Machine, Line, Steps, IsRun}
+use Rattle.std.specs.FinMap.{entries}
+use Rattle.history.specs.History.{plain}
+use Rattle.history.specs.ListMachine.{Machine, Line, Steps, IsRun, fresh}
 use Rattle.world.specs.node_laws.specs.declared.event.Event.{Event}
 use Rattle.world.specs.node_laws.specs.declared.event.Event.TheVariants as event
 use Rattle.world.specs.node_laws.specs.declared.event.Out.{Out}
 use Rattle.world.specs.node_laws.specs.declared.event.Out.TheVariants as out
 use Rattle.world.specs.node_laws.specs.Node.{NodeView, fresh_node}
 use Rattle.world.specs.node_laws.specs.Stepping.{IsStep, told_by_all}
-use Rattle.world.specs.node_laws.specs.Simulation.{NodeStandsFor}
+use Rattle.world.specs.node_laws.specs.Simulation.{NodeStandsFor, IsSettled}
 use Rattle.world.specs.node_laws.specs.Simulation as sim
 use Rattle.world.specs.node_laws.specs.Forgetting.{without_messages}
 use Rattle.world.specs.node_laws.specs.Rounds.{Settles}
-use Rattle.node_shell.specs.Labels.{Bindings, unbound, AreSameBindings, IsBound}
+use Rattle.row_ranges.specs.Beginnings.{beginning_end}
+use Rattle.node_shell.specs.Labels.{Bindings, unbound, AreSameBindings, IsBound, IsNoted}
 use Rattle.node_shell.specs.declared.line.Kind.{Kind}
 use Rattle.node_shell.specs.declared.line.Kind.TheVariants as kind
 use Rattle.node_shell.specs.declared.line.Call.{Call}
 use Rattle.node_shell.specs.declared.line.Call.TheVariants as call
 use Rattle.node_shell.specs.declared.line.LeafCall.{LeafCall}
 use Rattle.node_shell.specs.declared.line.LeafCall.TheVariants as leaf_call
+use Rattle.node_shell.specs.declared.line.Look.{Look}
+use Rattle.node_shell.specs.declared.looks.Scan.{Scan}
 use Rattle.node_shell.specs.declared.line_result.LineResult.{LineResult}
 use Rattle.node_shell.specs.declared.line_result.LineResult.TheVariants as came
-use Rattle.node_shell.specs.Script.{Command, begins, writes, adds, gets, scans, calls, treats, steps, settles, tables, forgets, shows, lines_from, first_fault, commands_of, onto}
+use Rattle.node_shell.specs.Script.{Command, begins, writes, adds, gets, scans, prefixes, calls, treats, steps, settles, tables, forgets, shows, lines_from, first_fault, commands_of, onto}
 use Rattle.node_shell.specs.Ending.{is_failure, settled_text}
 use Rattle.node_shell.specs.Stored.{table_text}
 use Rattle.node_shell.specs.View.{rows_shown, part_text}
 use Rattle.node_shell.specs.Printed.{refusal_line}
-use Rattle.node_shell.specs.Outcome.{out_text}
+use Rattle.node_shell.specs.Looked.{out_so}
 
 -- the label of a `begin` is bound to the transaction that it began
 abbrev pub Rebinds : Out → List ℕ → Bindings → Bindings → Type 0
@@ -64,7 +69,7 @@ op_written kind.Delete key value = op.Delete key
 
 abbrev pub Writes : List ℕ → Kind → List ℕ → List ℕ → NodeView → Bindings → Out → NodeView → Type 0
 Writes label k key value before labels output after =
-    StepsUnless (length_fault key value) before (event.Act (labels label) (op_written k key value)) output after
+    StepsUnless (length_fault key value) before (event.Act (labels.number label) (op_written k key value)) output after
 
 abbrev pub is_empty : List ℕ → Bool
 is_empty [] = true
@@ -81,15 +86,25 @@ keys_fault low (Some high) =
 
 abbrev pub AddsAmount : List ℕ → List ℕ → ℕ → NodeView → Bindings → Out → NodeView → Type 0
 AddsAmount label key amount before labels output after =
-    StepsUnless (keys_fault key None) before (event.Act (labels label) (op.Add key amount)) output after
+    StepsUnless (keys_fault key None) before (event.Act (labels.number label) (op.Add key amount)) output after
 
 abbrev pub Gets : List ℕ → List ℕ → NodeView → Bindings → Out → NodeView → Type 0
 Gets label key before labels output after =
-    StepsUnless (keys_fault key None) before (event.Get (labels label) key) output after
+    StepsUnless (keys_fault key None) before (event.Get (labels.number label) key) output after
+
+-- it is known how the rows are to be told of a scan that was asked for
+abbrev pub Notes : Out → ℕ → Look → Bindings → Bindings → Type 0
+Notes (out.Asked read) txn k old new = IsNoted old new txn k
+Notes _ txn k old new = AreSameBindings old new
 
 abbrev pub Scans : List ℕ → List ℕ → Option (List ℕ) → NodeView → Bindings → Out → NodeView → Type 0
 Scans label low high before labels output after =
-    StepsUnless (keys_fault low high) before (event.Scan (labels label) low high) output after
+    StepsUnless (keys_fault low high) before (event.Scan (labels.number label) low high) output after
+
+-- the keys that begin with a text are those from it on, below the end of them
+abbrev pub Prefixes : List ℕ → List ℕ → NodeView → Bindings → Out → NodeView → Type 0
+Prefixes label text before labels output after =
+    StepsUnless (keys_fault text None) before (event.Scan (labels.number label) text (beginning_end text)) output after
 
 -- the event of a leaf
 abbrev pub leaf_event : LeafCall → List ℕ → Event
@@ -133,10 +148,12 @@ ComesTo (adds label key amount) before old r after new =
     IsEvent (λ output. AddsAmount label key amount before old output after) r × AreSameBindings old new
 ComesTo (gets label key) before old r after new =
     IsEvent (λ output. Gets label key before old output after) r × AreSameBindings old new
-ComesTo (scans label low high) before old r after new =
-    IsEvent (λ output. Scans label low high before old output after) r × AreSameBindings old new
+ComesTo (scans label low high k) before old r after new =
+    IsEvent (λ output. Scans label low high before old output after × Notes output (old.number label) k old new) r
+ComesTo (prefixes label text k) before old r after new =
+    IsEvent (λ output. Prefixes label text before old output after × Notes output (old.number label) k old new) r
 ComesTo (calls label c) before old r after new =
-    IsEvent (λ output. IsStep before (event_called c (old label)) output after) r × AreSameBindings old new
+    IsEvent (λ output. IsStep before (event_called c (old.number label)) output after) r × AreSameBindings old new
 ComesTo (treats c key) before old r after new = IsEvent (λ output. Treats c key before output after) r × AreSameBindings old new
 ComesTo (steps e) before old r after new = IsEvent (λ output. IsStep before e output after) r × AreSameBindings old new
 ComesTo (settles most) before old r after new = IsSettling most before r after × AreSameBindings old new
@@ -158,27 +175,29 @@ lines_unless (Some r) e output = []
 abbrev pub client_lines : Command → Bindings → LineResult → List Line
 client_lines (begins label) labels (came.Event output) = lines_if (sim.lines_of event.Begin output)
 client_lines (writes label k key value) labels (came.Event output) =
-    lines_unless (length_fault key value) (event.Act (labels label) (op_written k key value)) output
+    lines_unless (length_fault key value) (event.Act (labels.number label) (op_written k key value)) output
 client_lines (adds label key amount) labels (came.Event output) =
-    lines_unless (keys_fault key None) (event.Act (labels label) (op.Add key amount)) output
+    lines_unless (keys_fault key None) (event.Act (labels.number label) (op.Add key amount)) output
 client_lines (gets label key) labels (came.Event output) =
-    lines_unless (keys_fault key None) (event.Get (labels label) key) output
-client_lines (scans label low high) labels (came.Event output) =
-    lines_unless (keys_fault low high) (event.Scan (labels label) low high) output
-client_lines (calls label c) labels (came.Event output) = lines_if (sim.lines_of (event_called c (labels label)) output)
+    lines_unless (keys_fault key None) (event.Get (labels.number label) key) output
+client_lines (scans label low high k) labels (came.Event output) =
+    lines_unless (keys_fault low high) (event.Scan (labels.number label) low high) output
+client_lines (prefixes label text k) labels (came.Event output) =
+    lines_unless (keys_fault text None) (event.Scan (labels.number label) text (beginning_end text)) output
+client_lines (calls label c) labels (came.Event output) = lines_if (sim.lines_of (event_called c (labels.number label)) output)
 client_lines (treats c key) labels (came.Event output) =
     lines_unless (keys_fault key None) (leaf_event c key) output
 client_lines (steps e) labels (came.Event output) = lines_if (sim.lines_of e output)
 client_lines (settles most) labels (came.Settled outs end) = told_by_all outs.items
 client_lines _ labels r = []
 
--- what is printed of a line's result, where this is the node after it
-abbrev pub result_text : LineResult → NodeView → List ℕ
-result_text (came.Event output) view = out_text output
-result_text (came.Settled outs end) view = settled_text outs.items end
-result_text (came.Table rows) view = table_text rows
-result_text came.Forgotten view = codes "forgotten\n"
-result_text (came.Shown p) view = part_text p view
+-- what is printed of a line's result, where this is the node after it, and rows are told as these scans want it
+abbrev pub result_text : LineResult → NodeView → List Scan → List ℕ
+result_text (came.Event output) view asked = out_so asked output
+result_text (came.Settled outs end) view asked = settled_text asked outs.items end
+result_text (came.Table rows) view asked = table_text rows
+result_text came.Forgotten view asked = codes "forgotten\n"
+result_text (came.Shown p) view asked = part_text p view
 
 abbrev pub has_failed_so : Out → Bool
 has_failed_so (out.Refused r) = is_failure r
@@ -212,16 +231,16 @@ pub data Runs (continues : Bool) : List Command → NodeView → Bindings → Li
       (next : Bindings) (text : List ℕ) (status : ℕ)
       → ComesTo c view labels r after next → (has_failed r ≡ true → continues ≡ true)
       → Runs continues cs after next text status
-      → Runs continues (c ∷ cs) view labels (result_text r after ++ text) (status_after (has_failed r) status)
+      → Runs continues (c ∷ cs) view labels (result_text r after next.scans ++ text) (status_after (has_failed r) status)
   -- memory or a device failed: the text of that line is the last
   fails : (c : Command) (cs : List Command) (view : NodeView) (labels : Bindings) (r : LineResult) (after : NodeView)
       (next : Bindings)
       → ComesTo c view labels r after next → has_failed r ≡ true → continues ≡ false
-      → Runs continues (c ∷ cs) view labels (result_text r after) 3
+      → Runs continues (c ∷ cs) view labels (result_text r after next.scans) 3
   -- a write failed: a beginning of that line's text is the last
   is_cut : (c : Command) (cs : List Command) (view : NodeView) (labels : Bindings) (r : LineResult) (after : NodeView)
       (next : Bindings) (text : List ℕ)
-      → ComesTo c view labels r after next → IsBeginning text (result_text r after)
+      → ComesTo c view labels r after next → IsBeginning text (result_text r after next.scans)
       → Runs continues (c ∷ cs) view labels text 3
 
 -- the calls and the told lines of a run
@@ -233,6 +252,27 @@ run_lines continues _ _ _ _ _ (goes_on c cs view labels r after next text status
     client_lines c labels r ++ run_lines continues cs after next text status rest
 run_lines _ _ _ _ _ _ (fails c cs view labels r after next came failed over) = client_lines c labels r
 run_lines _ _ _ _ _ _ (is_cut c cs view labels r after next text came cut) = client_lines c labels r
+
+-- where it is told that the node is settled, it is
+abbrev pub IsSettledBy : Command → LineResult → NodeView → Type 0
+IsSettledBy (settles most) (came.Settled outs (Ok true)) after = IsSettled after
+IsSettledBy _ r after = Unit {0}
+
+-- a settled node's table has the rows of a plain map after the operations that stand for this machine
+abbrev pub IsPlainTable : Command → LineResult → NodeView → Machine → Type 0
+IsPlainTable tables (came.Table rows) view m = IsSettled view → rows ≡ entries (plain m.h)
+IsPlainTable _ r view m = Unit {0}
+
+-- from this machine on, which each line leads on, the tables of a run are so
+abbrev pub HasPlainTables : (continues : Bool) (commands : List Command) (view : NodeView) (labels : Bindings)
+    (text : List ℕ) (status : ℕ)
+    → Runs continues commands view labels text status → Machine → Type 0
+HasPlainTables _ _ _ _ _ _ (done view labels) m = Unit {0}
+HasPlainTables continues _ _ _ _ _ (goes_on c cs view labels r after next text status came on rest) m =
+    IsPlainTable c r view m × IsSettledBy c r after
+    × ((n : Machine) × Steps m (client_lines c labels r) n × HasPlainTables continues cs after next text status rest n)
+HasPlainTables _ _ _ _ _ _ (fails c cs view labels r after next came failed over) m = IsPlainTable c r view m
+HasPlainTables _ _ _ _ _ _ (is_cut c cs view labels r after next text came cut) m = IsPlainTable c r view m
 
 -- the text of these lines is written
 pub record WritesRun (continues : Bool) (commands : List Command) (view : NodeView) (labels : Bindings)
@@ -276,11 +316,13 @@ pub record WritesAlone (line : List ℕ) (own : ℕ) (old new : Option (List ℕ
   pub appended : Appends old new text
   pub alone : IsAlone line own text status
 
--- the headline: the calls and the told lines of these lines are a run of the list machine, from the empty one on
+-- the headline: the calls and the told lines of these lines are a run of the list machine, from the empty one on; and
+-- whenever the node is settled a printed table is what a plain map holds after them
 pub record IsToldRun (continues : Bool) (commands : List Command) (view : NodeView) (labels : Bindings)
     (text : List ℕ) (status : ℕ) : Type 0 where
   pub runs : Runs continues commands view labels text status
   pub is_run : IsRun (run_lines continues commands view labels text status runs)
+  pub plain : HasPlainTables continues commands view labels text status runs fresh
 
 -- whatever list machine the node stands for, the calls and the told lines of these lines lead from it to another
 pub record IsLedRun (continues : Bool) (commands : List Command) (view : NodeView) (labels : Bindings)
@@ -288,6 +330,7 @@ pub record IsLedRun (continues : Bool) (commands : List Command) (view : NodeVie
   pub runs : Runs continues commands view labels text status
   pub leads : (m : Machine) → NodeStandsFor view m
       → (n : Machine) × Steps m (run_lines continues commands view labels text status runs) n
+  pub plain : (m : Machine) → NodeStandsFor view m → HasPlainTables continues commands view labels text status runs m
 
 -- the text of a script, where this is its first fault
 abbrev pub IsTextAfterCheck : Bool → Option ℕ → List ℕ → List ℕ → ℕ → Type 0

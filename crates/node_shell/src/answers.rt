@@ -1,12 +1,12 @@
 //! The text of answers, values and rows that a transaction asked for.
 ghost use Rattle.std.specs.Prelude.{◌≡◌};
 ghost use Rattle.node_shell.specs.Printed.{Prints, piece_text, shown_if};
-ghost use Rattle.node_shell.specs.Answers.{answer_text, answered_line, value_line, found_text};
+ghost use Rattle.node_shell.specs.Answers.{answer_text, answered_line, value_line, counted_line, found_text};
 
 use crate::pieces::{Piece, print};
 use crate::printed::{print_numbered, print_valued};
-use crate::rows::print_packed;
-use codec::Rows;
+use crate::rows::print_lent;
+use codec::LentRows;
 use record_key::{Answer, Value};
 use std::io;
 
@@ -68,19 +68,31 @@ pub fn value_piece(value: &Option<Value>) -> Piece<'_>
     }
 }
 
-/// How many rows a transaction's scan found, and a line of each.
-pub fn print_found<W: io::Write>(writer: &mut W, txn: u64, rows: &Rows) -> io::Result<()>
+/// How many rows these are, and a line of each.
+pub fn print_found<W: io::Write>(writer: &mut W, txn: u64, rows: &LentRows<'_>) -> io::Result<()>
     ensures { Prints (W.contents writer.old) (W.contents writer.new) result (found_text txn rows.now) }
+{
+    print_counted(writer, "rows ", txn, rows.len())?;
+    print_lent(writer, rows)
+}
+
+/// A word, a transaction, and how many rows it is told of.
+pub fn print_counted<W: io::Write>(
+    writer: &mut W,
+    word: &str,
+    txn: u64,
+    count: usize,
+) -> io::Result<()>
+    ensures { Prints (W.contents writer.old) (W.contents writer.new) result (counted_line word.now txn count) }
 {
     print(
         writer,
         &[
-            Piece::Text("rows "),
+            Piece::Text(word),
             Piece::Number(txn),
             Piece::Text(" "),
-            Piece::Number(rows.len() as u64),
+            Piece::Number(count as u64),
             Piece::Text("\n"),
         ],
-    )?;
-    print_packed(writer, rows)
+    )
 }

@@ -1,4 +1,4 @@
-//! Labels of transactions, and the numbers that they stand for.
+//! Labels of transactions, the numbers that they stand for, and how the rows are told that those ask for.
 ghost use Rattle.std.specs.Prelude.{◌≡◌, ◌||◌, ℕ, List, Some, refl, OnOk, IsSome};
 ghost use Rattle.std.specs.Ordering.{nat_cmp};
 ghost use Rattle.std.specs.Cmp.Lexicographic.{slice_cmp, nat_list_cmp_total, texts_po, texts_ties};
@@ -7,6 +7,8 @@ ghost use Rattle.std.specs.Char.{is_ascii_lowercase, is_ascii_digit};
 ghost use Rattle.std.specs.BTreeMap.{get};
 ghost use Rattle.node_shell.specs.Words.{is_label, label_in};
 
+use crate::line::Look;
+use crate::looks::Looks;
 use arrayvec::ArrayVec;
 use std::alloc::{AllocError, Global};
 use std::cmp::Ordering;
@@ -94,27 +96,29 @@ impl Ord for Label {
     }
 }
 
-/// What each label stands for: 0, which is no transaction's number, until it is bound.
+/// What each label stands for: 0, which is no transaction's number, until it is bound; and how rows are told.
 #[derive(Drop)]
 pub struct Labels {
     numbers: BTreeMap<Label, u64>,
+    pub looks: Looks,
 }
 
 impl Labels {
-    ghost use Rattle.node_shell.specs.Labels.{bound_number, unbound, AreSameBindings, IsBound};
+    ghost use Rattle.node_shell.specs.Labels.{bindings, unbound, AreSameBindings, IsBound, IsNoted};
 
     /// No label is bound.
     pub fn new(alloc: Global) -> Labels
-        ensures { AreSameBindings unbound (bound_number result) }
+        ensures { AreSameBindings unbound (bindings result) }
     {
         Labels {
             numbers: BTreeMap::new(alloc),
+            looks: Looks::new(),
         }
     }
 
     /// The number that the label stands for.
     pub fn number(&self, label: &Label) -> u64
-        ensures { result ≡ bound_number self.now label.now }
+        ensures { result ≡ (bindings self.now).number label.now }
     {
         match self.numbers.get(label) {
             Some(number) => *number,
@@ -124,7 +128,7 @@ impl Labels {
 
     /// Makes room for the label's binding, and binds nothing.
     pub fn make_room(&mut self, label: &Label) -> Result<(), AllocError>
-        ensures same { AreSameBindings (bound_number self.old) (bound_number self.new) }
+        ensures same { AreSameBindings (bindings self.old) (bindings self.new) }
         ensures room { OnOk result (IsSome (get (slice_cmp nat_cmp) self.new.numbers label.now)) }
     {
         if !self.numbers.contains_key(label) {
@@ -136,9 +140,16 @@ impl Labels {
     /// Binds the label, for which there is room.
     pub fn bind(&mut self, label: &Label, number: u64)
         requires { IsSome (get (slice_cmp nat_cmp) self.old.numbers label.now) }
-        ensures { IsBound (bound_number self.old) (bound_number self.new) label.now number }
+        ensures { IsBound (bindings self.old) (bindings self.new) label.now number }
     {
         // A key that is there takes no memory.
         let _ = self.numbers.insert(label.copied(), number);
+    }
+
+    /// The transaction has asked for rows, which are to be told so.
+    pub fn note(&mut self, txn: u64, look: Look)
+        ensures { IsNoted (bindings self.old) (bindings self.new) txn look }
+    {
+        self.looks.note(txn, look);
     }
 }

@@ -15,6 +15,9 @@ mod leaves;
 mod line;
 mod line_result;
 mod logged;
+mod looked;
+mod looking;
+mod looks;
 mod names;
 mod operations;
 mod outcome;
@@ -33,9 +36,10 @@ mod words;
 
 pub use answers::value_piece;
 pub use label::Label;
-pub use line::{Call, Component, Device, Kind, LeafCall, Line, Part, Written};
+pub use line::{Call, Component, Device, Kind, LeafCall, Line, Look, Part, Written};
 pub use line_result::LineResult;
 pub use logged::print_record;
+pub use looks::Looks;
 pub use pieces::{Piece, print, put};
 pub use printed::print_refusal;
 pub use rows::{print_row, print_table};
@@ -47,4 +51,5 @@ pub use told::print_told;
 pub use words::{number_of, written};
 
 // What a crate above names of those below.
+pub use row_ranges;
 pub use world;

@@ -61,6 +61,22 @@ pub enum Part {
     Leaves,
 }
 
+/// How the rows of a scan are told.
+#[derive(Clone, Copy, Default)]
+pub enum Look {
+    /// All of them, in the order of their keys.
+    #[default]
+    All,
+    /// All of them, in the other order.
+    Back,
+    /// So many at most, from the first one on.
+    First { most: u64 },
+    /// So many at most, from the last one down.
+    Last { most: u64 },
+    /// Just how many they are.
+    Count,
+}
+
 /// A key or a value as a line gives it.
 #[derive(Drop)]
 pub enum Written<'a> {
@@ -110,6 +126,13 @@ pub enum Line<'a> {
         label: Label,
         low: Written<'a>,
         high: Option<Written<'a>>,
+        look: Look,
+    },
+    /// The keys that begin with `text`.
+    Prefix {
+        label: Label,
+        text: Written<'a>,
+        look: Look,
     },
     Call {
         label: Label,

@@ -1,17 +1,17 @@
 //! What a line of a script came to, and its text.
 ghost use Rattle.std.specs.Prelude.{◌≡◌, flat_map};
 ghost use Rattle.node_shell.specs.Printed.{Prints};
-ghost use Rattle.node_shell.specs.Told.{told_text};
+ghost use Rattle.node_shell.specs.Looked.{told_so};
 ghost use Rattle.node_shell.specs.Ending.{is_failure, end_line, settled_text};
 
 use crate::line::Part;
-use crate::outcome::print_out;
+use crate::looked::{print_out_so, print_told_so};
+use crate::looks::Looks;
 use crate::pieces::{Piece, print};
 use crate::printed::print_refusal;
 use crate::row_list::RowList;
 use crate::rows::print_table;
 use crate::shown::print_part;
-use crate::told::print_told;
 use record_key::Refusal;
 use stable::{CrashLog, CrashPages};
 use std::io;
@@ -52,17 +52,21 @@ impl LineResult {
         }
     }
 
-    /// Writes its lines. A part that is shown is one of the world as it is.
+    /// Writes its lines, rows as their scans want it. A part that is shown is one of the world as it is.
     pub fn print<D: CrashLog, P: CrashPages, W: io::Write>(
         &self,
         world: &World<D, P>,
+        looks: &Looks,
         writer: &mut W,
     ) -> io::Result<()>
-        ensures { Prints (W.contents writer.old) (W.contents writer.new) result (result_text self.now world.now) }
+        ensures { Prints (W.contents writer.old) (W.contents writer.new) result
+            (result_text self.now world.now looks.now.scans.items) }
     {
         match self {
-            LineResult::Event(out) => print_out(writer, out),
-            LineResult::Settled { outs, end } => print_settled(writer, outs.as_slice(), end),
+            LineResult::Event(out) => print_out_so(writer, looks, out),
+            LineResult::Settled { outs, end } => {
+                print_settled(writer, looks, outs.as_slice(), end)
+            }
             LineResult::Table(rows) => print_table(writer, rows.as_slice()),
             LineResult::Forgotten => print(writer, &[Piece::Text("forgotten\n")]),
             LineResult::Shown(part) => print_part(writer, *part, world),
@@ -79,20 +83,23 @@ fn is_failure(refusal: Refusal) -> bool
 /// What clients were told while the node settled, and how it ended.
 fn print_settled<W: io::Write>(
     writer: &mut W,
+    looks: &Looks,
     outs: &[Out],
     end: &Result<bool, Refusal>,
 ) -> io::Result<()>
-    ensures { Prints (W.contents writer.old) (W.contents writer.new) result (settled_text outs.now end.now) }
+    ensures { Prints (W.contents writer.old) (W.contents writer.new) result
+        (settled_text looks.now.scans.items outs.now end.now) }
 {
-    print_all_told(writer, outs)?;
+    print_all_told(writer, looks, outs)?;
     print_end(writer, end)
 }
 
-fn print_all_told<W: io::Write>(writer: &mut W, outs: &[Out]) -> io::Result<()>
-    ensures { Prints (W.contents writer.old) (W.contents writer.new) result (flat_map told_text outs.now) }
+fn print_all_told<W: io::Write>(writer: &mut W, looks: &Looks, outs: &[Out]) -> io::Result<()>
+    ensures { Prints (W.contents writer.old) (W.contents writer.new) result
+        (flat_map (told_so looks.now.scans.items) outs.now) }
 {
     for out in outs {
-        print_told(writer, out)?;
+        print_told_so(writer, looks, out)?;
     }
     Ok(())
 }

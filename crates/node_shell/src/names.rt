@@ -4,7 +4,7 @@ ghost use Rattle.node_shell.specs.Words.{label_in, number_in, written_in};
 ghost use Rattle.node_shell.specs.Script.{bare, with_label, call_named, with_number, treating_leaf, leaf_call_named, with_key, with_savepoint, kind_with_value, meaning};
 
 use crate::label::Label;
-use crate::line::{Call, Kind, LeafCall, Line, Part, Written};
+use crate::line::{Call, Kind, LeafCall, Line, Look, Part, Written};
 use crate::words::{number_of, written};
 use world::Event;
 
@@ -126,6 +126,12 @@ pub fn with_key<'a>(name: &[u8], label: &[u8], word: &'a [u8]) -> Option<Line<'a
             kind: Kind::Delete,
             key,
             value: Written::Text(&word[..0]),
+        })
+    } else if name == b"prefix".as_slice() {
+        Some(Line::Prefix {
+            label,
+            text: key,
+            look: Look::All,
         })
     } else {
         None

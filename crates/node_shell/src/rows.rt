@@ -5,7 +5,7 @@ ghost use Rattle.node_shell.specs.Stored.{row_line, table_text};
 
 use crate::pieces::{Piece, print};
 use crate::printed::print_numbered;
-use codec::Rows;
+use codec::LentRows;
 use record_key::{Key, Value};
 use std::io;
 
@@ -18,10 +18,10 @@ pub fn print_table<W: io::Write>(writer: &mut W, rows: &[(Key, Value)]) -> io::R
 }
 
 /// The lines of the rows that a transaction asked for.
-pub fn print_packed<W: io::Write>(writer: &mut W, rows: &Rows) -> io::Result<()>
+pub fn print_lent<W: io::Write>(writer: &mut W, rows: &LentRows<'_>) -> io::Result<()>
     ensures { Prints (W.contents writer.old) (W.contents writer.new) result (flat_map row_line rows.now) }
 {
-    let mut reader = rows.lent();
+    let mut reader = rows.again();
     while let Some(row) = reader.next() {
         print_row(writer, &row.0, &row.1)?;
     }

@@ -1,6 +1,6 @@
 //! A script from its bytes to its text.
 ghost use Rattle.std.specs.Prelude.{◌≡◌, ◌⊎◌};
-ghost use Rattle.node_shell.specs.Labels.{bound_number};
+ghost use Rattle.node_shell.specs.Labels.{bindings};
 ghost use Rattle.node_shell.specs.Script.{lines_from, commands_of, asked_by};
 ghost use Rattle.node_shell.specs.Printed.{refusal_line};
 ghost use Rattle.node_shell.specs.Text.{WritesText, WritesTextFrom, WritesTextOn, WritesRun, WritesLine, WritesAlone};
@@ -66,9 +66,10 @@ fn run_in<D: CrashLog, P: CrashPages, R: io::Read, W: io::Write>(
     reader: &mut R,
     writer: &mut W,
 ) -> u8
-    ensures { WritesTextFrom continues shell.old.world (bound_number shell.old.labels) (R.remaining reader.old)
+    ensures { WritesTextFrom continues shell.old.world (bindings shell.old.labels) (R.remaining reader.old)
         (W.contents writer.old) (W.contents writer.new) result }
 {
+    shell.world.kept();
     let mut script = Vec::new(alloc);
     if let Err(error) = reader.read_to_end(&mut script) {
         return refuse(writer, refusal_of(&error), FAILED);
@@ -107,7 +108,7 @@ fn run_from<D: CrashLog, P: CrashPages, W: io::Write>(
     script: &[u8],
     writer: &mut W,
 ) -> u8
-    ensures { WritesRun continues (commands_of (lines_from script.now)) shell.old.world (bound_number shell.old.labels)
+    ensures { WritesRun continues (commands_of (lines_from script.now)) shell.old.world (bindings shell.old.labels)
         (W.contents writer.old) (W.contents writer.new) result }
 {
     let mut left = Some(script);
@@ -133,14 +134,14 @@ pub fn run_line<D: CrashLog, P: CrashPages, W: io::Write>(
     line: &[u8],
     writer: &mut W,
 ) -> io::Result<bool>
-    ensures { WritesLine result (asked_by line.now) shell.old.world (bound_number shell.old.labels) shell.new.world
-        (bound_number shell.new.labels) (W.contents writer.old) (W.contents writer.new) }
+    ensures { WritesLine result (asked_by line.now) shell.old.world (bindings shell.old.labels) shell.new.world
+        (bindings shell.new.labels) (W.contents writer.old) (W.contents writer.new) }
 {
     let Some(line) = request(line) else {
         return Ok(false);
     };
     let came = shell.perform(&line);
-    match came.print(&shell.world, writer) {
+    match came.print(&shell.world, &shell.labels.looks, writer) {
         Ok(()) => Ok(came.has_failed()),
         Err(error) => Err(error),
     }

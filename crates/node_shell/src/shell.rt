@@ -6,16 +6,19 @@ ghost use Rattle.std.specs.Cmp.Lexicographic.{slice_cmp};
 ghost use Rattle.std.specs.BTreeMap.{get};
 ghost use Rattle.record_key.specs.FirstCause.{RefusesAs};
 ghost use Rattle.world.specs.tc_core.specs.Causes.{begin_refusal};
+ghost use Rattle.world.specs.node_laws.specs.declared.event.Event.TheVariants as event;
 ghost use Rattle.world.specs.node_laws.specs.Node.{fresh_node, if_up};
-ghost use Rattle.node_shell.specs.Labels.{bound_number, unbound, AreSameBindings};
+ghost use Rattle.world.specs.node_laws.specs.Stepping.{IsStep};
+ghost use Rattle.node_shell.specs.Labels.{bindings, unbound, AreSameBindings};
 ghost use Rattle.node_shell.specs.Script.{meaning, written_bytes};
-ghost use Rattle.node_shell.specs.Text.{ComesTo, Begins, Writes, AddsAmount, Gets, Scans, Treats, IsTableShown, IsSettling, event_called, leaf_event, op_written, length_fault, keys_fault};
+ghost use Rattle.node_shell.specs.Text.{ComesTo, Begins, Writes, AddsAmount, Gets, Scans, Prefixes, Notes, Treats, IsTableShown, IsSettling, event_called, leaf_event, op_written, length_fault, keys_fault};
 
 use crate::label::{Label, Labels};
-use crate::line::{Call, Kind, LeafCall, Line, Written};
+use crate::line::{Call, Kind, LeafCall, Line, Look, Written};
 use crate::line_result::LineResult;
 use crate::row_list::RowList;
 use record_key::{Key, Op, Refusal, Value};
+use row_ranges::beginning_end;
 use stable::{CrashLog, CrashPages, MemLog, MemPages};
 use std::alloc::Global;
 use world::{Event, Out, World, settle};
@@ -25,14 +28,14 @@ use world::{Event, Out, World, settle};
 pub struct Shell<D: CrashLog = MemLog, P: CrashPages = MemPages> {
     alloc: Global,
     pub world: World<D, P>,
-    labels: Labels,
+    pub(crate) labels: Labels,
 }
 
 impl Shell<MemLog, MemPages> {
     /// A new node, and no label bound.
     pub fn new(alloc: Global) -> Result<Shell, Refusal>
         ensures world { IfOk result (λ shell. shell.world ≡ fresh_node) }
-        ensures labels { IfOk result (λ shell. AreSameBindings unbound (bound_number shell.labels)) }
+        ensures labels { IfOk result (λ shell. AreSameBindings unbound (bindings shell.labels)) }
         ensures memory { IfErr result (λ refusal. refusal ≡ Refusal.NoMemory) }
     {
         Ok(Shell::on(alloc, World::new(alloc)?))
@@ -43,7 +46,7 @@ impl<D: CrashLog, P: CrashPages> Shell<D, P> {
     /// This node, and no label bound.
     pub fn on(alloc: Global, world: World<D, P>) -> Shell<D, P>
         ensures world { result.world ≡ world }
-        ensures labels { AreSameBindings unbound (bound_number result.labels) }
+        ensures labels { AreSameBindings unbound (bindings result.labels) }
     {
         Shell {
             alloc,
@@ -54,15 +57,15 @@ impl<D: CrashLog, P: CrashPages> Shell<D, P> {
 
     /// The number of the transaction that the label stands for, 0 where it is not bound.
     pub fn bound(&self, label: &Label) -> u64
-        ensures { result ≡ bound_number self.now.labels label.now }
+        ensures { result ≡ (bindings self.now.labels).number label.now }
     {
         self.labels.number(label)
     }
 
     /// Runs the line.
     pub fn perform(&mut self, line: &Line<'_>) -> LineResult
-        ensures { ComesTo (meaning line.now) self.old.world (bound_number self.old.labels) result self.new.world
-            (bound_number self.new.labels) }
+        ensures { ComesTo (meaning line.now) self.old.world (bindings self.old.labels) result self.new.world
+            (bindings self.new.labels) }
     {
         match line {
             Line::Begin(label) => LineResult::Event(self.begin(label)),
@@ -76,8 +79,14 @@ impl<D: CrashLog, P: CrashPages> Shell<D, P> {
                 LineResult::Event(self.add(label, key.as_bytes(), *amount))
             }
             Line::Get { label, key } => LineResult::Event(self.get(label, key.as_bytes())),
-            Line::Scan { label, low, high } => {
-                LineResult::Event(self.scan(label, low.as_bytes(), end_bytes(high)))
+            Line::Scan {
+                label,
+                low,
+                high,
+                look,
+            } => LineResult::Event(self.scan(label, low.as_bytes(), end_bytes(high), *look)),
+            Line::Prefix { label, text, look } => {
+                LineResult::Event(self.prefix(label, text.as_bytes(), *look))
             }
             Line::Call { label, call } => {
                 let event = event_called(*call, self.labels.number(label));
@@ -97,8 +106,8 @@ impl<D: CrashLog, P: CrashPages> Shell<D, P> {
 
     /// Begins a transaction and binds the label to it.
     fn begin(&mut self, label: &Label) -> Out
-        ensures { Begins label.now self.old.world (bound_number self.old.labels) result self.new.world
-            (bound_number self.new.labels) }
+        ensures { Begins label.now self.old.world (bindings self.old.labels) result self.new.world
+            (bindings self.new.labels) }
     {
         self.world.kept();
         if let Err(refusal) = self.make_way(label) {
@@ -116,7 +125,7 @@ impl<D: CrashLog, P: CrashPages> Shell<D, P> {
         ensures refused { IfErr result (RefusesAs (if_up self.old.world.tc_up (begin_refusal self.old.world.tc))) }
         ensures room { OnOk result (IsSome (get (slice_cmp nat_cmp) self.new.labels.numbers label.now)) }
         ensures world { self.new.world ≡ self.old.world }
-        ensures labels { AreSameBindings (bound_number self.old.labels) (bound_number self.new.labels) }
+        ensures labels { AreSameBindings (bindings self.old.labels) (bindings self.new.labels) }
     {
         self.world.can_begin()?;
         self.labels.make_room(label)?;
@@ -125,9 +134,9 @@ impl<D: CrashLog, P: CrashPages> Shell<D, P> {
 
     /// Writes, where the key and the value have lengths that the node takes.
     fn write(&mut self, label: &Label, kind: Kind, key: &[u8], value: &[u8]) -> Out
-        ensures event { Writes label.now kind key.now value.now self.old.world (bound_number self.old.labels) result
+        ensures event { Writes label.now kind key.now value.now self.old.world (bindings self.old.labels) result
             self.new.world }
-        ensures labels { AreSameBindings (bound_number self.old.labels) (bound_number self.new.labels) }
+        ensures labels { AreSameBindings (bindings self.old.labels) (bindings self.new.labels) }
     {
         let op = match op_of(kind, key, value) {
             Ok(op) => op,
@@ -139,9 +148,9 @@ impl<D: CrashLog, P: CrashPages> Shell<D, P> {
 
     /// Adds to the number at a key that has a length that the node takes.
     fn add(&mut self, label: &Label, key: &[u8], amount: u64) -> Out
-        ensures event { AddsAmount label.now key.now amount self.old.world (bound_number self.old.labels) result
+        ensures event { AddsAmount label.now key.now amount self.old.world (bindings self.old.labels) result
             self.new.world }
-        ensures labels { AreSameBindings (bound_number self.old.labels) (bound_number self.new.labels) }
+        ensures labels { AreSameBindings (bindings self.old.labels) (bindings self.new.labels) }
     {
         let key = match Key::new(key) {
             Ok(key) => key,
@@ -155,7 +164,7 @@ impl<D: CrashLog, P: CrashPages> Shell<D, P> {
     /// Splits, merges or writes the leaf of a key that has a length that the node takes.
     fn treat(&mut self, call: LeafCall, key: &[u8]) -> Out
         ensures event { Treats call key.now self.old.world result self.new.world }
-        ensures labels { AreSameBindings (bound_number self.old.labels) (bound_number self.new.labels) }
+        ensures labels { AreSameBindings (bindings self.old.labels) (bindings self.new.labels) }
     {
         let event = match leaf_event(call, key) {
             Ok(event) => event,
@@ -176,8 +185,8 @@ impl<D: CrashLog, P: CrashPages> Shell<D, P> {
 
     /// Asks for the value at a key that has a length that the node takes.
     fn get(&mut self, label: &Label, key: &[u8]) -> Out
-        ensures event { Gets label.now key.now self.old.world (bound_number self.old.labels) result self.new.world }
-        ensures labels { AreSameBindings (bound_number self.old.labels) (bound_number self.new.labels) }
+        ensures event { Gets label.now key.now self.old.world (bindings self.old.labels) result self.new.world }
+        ensures labels { AreSameBindings (bindings self.old.labels) (bindings self.new.labels) }
     {
         let key = match Key::new(key) {
             Ok(key) => key,
@@ -187,18 +196,46 @@ impl<D: CrashLog, P: CrashPages> Shell<D, P> {
         self.world.step(&Event::Get { txn, key })
     }
 
-    /// Asks for the rows between keys that have lengths that the node takes.
-    fn scan(&mut self, label: &Label, low: &[u8], high: Option<&[u8]>) -> Out
-        ensures event { Scans label.now low.now (option_copied high.entry) self.old.world (bound_number self.old.labels)
+    /// Asks for the rows between keys that have lengths that the node takes, to be told so.
+    fn scan(&mut self, label: &Label, low: &[u8], high: Option<&[u8]>, look: Look) -> Out
+        ensures event { Scans label.now low.now (option_copied high.entry) self.old.world (bindings self.old.labels)
             result self.new.world }
-        ensures labels { AreSameBindings (bound_number self.old.labels) (bound_number self.new.labels) }
+        ensures noted { Notes result ((bindings self.old.labels).number label.now) look (bindings self.old.labels)
+            (bindings self.new.labels) }
     {
         let (low, high) = match ends_of(low, high) {
             Ok(ends) => ends,
             Err(refusal) => return Out::Refused(refusal),
         };
         let txn = self.labels.number(label);
-        self.world.step(&Event::Scan { txn, low, high })
+        self.ask(txn, low, high, look)
+    }
+
+    /// Asks for the rows whose keys begin with a text of a length that keys have, to be told so.
+    fn prefix(&mut self, label: &Label, text: &[u8], look: Look) -> Out
+        ensures event { Prefixes label.now text.now self.old.world (bindings self.old.labels) result self.new.world }
+        ensures noted { Notes result ((bindings self.old.labels).number label.now) look (bindings self.old.labels)
+            (bindings self.new.labels) }
+    {
+        let key = match Key::new(text) {
+            Ok(key) => key,
+            Err(refusal) => return Out::Refused(refusal),
+        };
+        let end = beginning_end(&key);
+        let txn = self.labels.number(label);
+        self.ask(txn, key, end, look)
+    }
+
+    /// The transaction asks for rows, to be told so.
+    fn ask(&mut self, txn: u64, low: Key, high: Option<Key>, look: Look) -> Out
+        ensures event { IsStep self.old.world (event.Scan txn low high) result self.new.world }
+        ensures noted { Notes result txn look (bindings self.old.labels) (bindings self.new.labels) }
+    {
+        let out = self.world.step(&Event::Scan { txn, low, high });
+        if let Out::Asked(_) = &out {
+            self.labels.note(txn, look);
+        }
+        out
     }
 }
 

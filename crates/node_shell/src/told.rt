@@ -16,7 +16,7 @@ pub fn print_told<W: io::Write>(writer: &mut W, out: &Out) -> io::Result<()>
     match out {
         Out::Answered { txn, answer } => print_answered(writer, *txn, answer),
         Out::Row { txn, value } => print_value(writer, *txn, value),
-        Out::Rows { txn, rows } => print_found(writer, *txn, rows),
+        Out::Rows { txn, rows } => print_found(writer, *txn, &rows.lent()),
         Out::Back { txn, savepoint } => print_back(writer, *txn, *savepoint),
         Out::RolledBack(txn) => print_numbered(writer, "rolled back ", *txn),
         Out::Lost(txn) => print_numbered(writer, "lost ", *txn),

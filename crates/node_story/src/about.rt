@@ -11,6 +11,7 @@ pub fn of_line(line: &Line<'_>, shell: &Shell) -> (Doing, u64) {
         Line::Add { label, .. } => (Doing::Write, shell.bound(label)),
         Line::Get { label, .. } => (Doing::Ask, shell.bound(label)),
         Line::Scan { label, .. } => (Doing::Ask, shell.bound(label)),
+        Line::Prefix { label, .. } => (Doing::Ask, shell.bound(label)),
         Line::Call { label, call } => (of_call(*call), shell.bound(label)),
         Line::Leaf { .. } => (Doing::Leaf, 0),
         Line::Step(event) => of_event(event),

@@ -1,6 +1,7 @@
 //! Which keys a line takes.
 use crate::actor::{End, Hold, Mode};
 use crate::story::Story;
+use node_shell::row_ranges::beginning_end;
 use node_shell::world::Out;
 use node_shell::{Line, Written};
 use record_key::{Key, Refusal};
@@ -22,6 +23,7 @@ pub fn take_keys(
         Line::Add { key, .. } => hold(txn, of, key, End::Single, Mode::Increment)?,
         Line::Get { key, .. } => hold(txn, of, key, End::Single, Mode::Shared)?,
         Line::Scan { low, high, .. } => hold(txn, of, low, end_of(high)?, Mode::Shared)?,
+        Line::Prefix { text, .. } => hold(txn, of, text, end_behind(text)?, Mode::Shared)?,
         _ => return Ok(()),
     };
     add(&mut story.holds, hold)
@@ -40,6 +42,13 @@ fn hold(txn: u64, of: u64, low: &Written<'_>, end: End, mode: Mode) -> Result<Ho
 fn end_of(high: &Option<Written<'_>>) -> Result<End, Refusal> {
     match high {
         Some(high) => Ok(End::Below(Key::new(high.as_bytes())?)),
+        None => Ok(End::Open),
+    }
+}
+
+fn end_behind(text: &Written<'_>) -> Result<End, Refusal> {
+    match beginning_end(&Key::new(text.as_bytes())?) {
+        Some(end) => Ok(End::Below(end)),
         None => Ok(End::Open),
     }
 }

@@ -10,6 +10,8 @@ pub(crate) enum Kind {
     Number,
     Call,
     Amount,
+    Look,
+    Limit,
     Component,
     Device,
 }
@@ -24,6 +26,8 @@ impl Kind {
             "N" => Kind::Number,
             "M" => Kind::Call,
             "A" => Kind::Amount,
+            "L" => Kind::Look,
+            "F" => Kind::Limit,
             "C" => Kind::Component,
             "D" => Kind::Device,
             _ => Kind::Key,
@@ -35,6 +39,8 @@ impl Kind {
         match self {
             Kind::Label | Kind::Key | Kind::Value | Kind::End => b"k",
             Kind::Number | Kind::Call | Kind::Amount => b"1",
+            Kind::Look => b"back",
+            Kind::Limit => b"first",
             Kind::Component => b"tc",
             Kind::Device => b"pages",
         }
@@ -47,6 +53,8 @@ impl Kind {
             Kind::Key | Kind::End => "K",
             Kind::Value => "V",
             Kind::Number | Kind::Call | Kind::Amount => "N",
+            Kind::Look => "back|count",
+            Kind::Limit => "first|last",
             Kind::Component => "C",
             Kind::Device => "D",
         }
@@ -65,6 +73,8 @@ impl Kind {
             Kind::Call =>
                 "the number of a call: decimal, without leading zeros, from 1, below 2 to the power of 48",
             Kind::Amount => "an amount: decimal, without leading zeros, below 2 to the power of 64",
+            Kind::Look => "back or count",
+            Kind::Limit => "first or last",
             Kind::Component => "a component: tc or dc",
             Kind::Device => "a device: tclog, dclog or pages",
         }
@@ -81,6 +91,11 @@ delete T K
 add T K A
 get T K
 scan T K E
+scan T K E L
+scan T K E F N
+prefix T K
+prefix T K L
+prefix T K F N
 save T
 back T N
 rollback T

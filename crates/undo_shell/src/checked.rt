@@ -2,7 +2,10 @@
 ghost use Rattle.std.specs.Prelude.{◌≡◌, [], IfOk};
 
 use crate::progress::Progress;
-use crate::stored::{Node, print_unopened, print_unread, print_wanting, unsettled_on};
+use crate::rising::bring_to_rest;
+use crate::stored::{
+    Node, announce_renewal, print_unopened, print_unread, print_wanting, unsettled_on,
+};
 use crate::terminals::Terminals;
 use file_devices::{FileLog, NoPages, StoreError, count_blocks, read_store};
 use history::Record;
@@ -11,7 +14,6 @@ use node_store::{Cause, renew};
 use record_key::Refusal;
 use std::fs::{File, Files};
 use std::time::Clock;
-use world::bring_up;
 
 /// What a store has.
 #[derive(Clone, Copy)]
@@ -56,7 +58,7 @@ where
     R: Print + Eprint + AllocGlobal + Files<File = File> + Clock,
     requires { log.pending ≡ [] }
 {
-    match unsettled_on(rt, folder, log) {
+    match unsettled_on(rt, terminals, folder, log) {
         Ok(mut node) => match look(rt, terminals, &mut node) {
             Ok(contents) => print_contents(rt, blocks, &contents),
             Err(refusal) => print_unread(rt, folder, Cause::Refused(refusal)),
@@ -76,14 +78,14 @@ where
     let ends = ends(rt, node, records, &mut progress);
     progress.end(rt);
     let (committed, open) = ends?;
-    bring_up(node, &mut Vec::new(rt.alloc()))?;
+    bring_to_rest(rt, terminals, node)?;
     Ok(Contents {
         records,
         committed,
         open,
         rows: node.rows()?.len() as u64,
         bytes,
-        compacted: compacted(rt, node)?,
+        compacted: compacted(rt, terminals, node)?,
     })
 }
 
@@ -113,10 +115,16 @@ fn ends<R: Eprint + Clock>(
 }
 
 /// How many bytes the log of a renewed node has.
-fn compacted<R: AllocGlobal>(rt: &R, node: &Node) -> Result<u64, Refusal> {
+fn compacted<R>(rt: &R, terminals: Terminals, node: &Node) -> Result<u64, Refusal>
+where
+    R: Eprint + AllocGlobal + Clock,
+{
+    let progress = announce_renewal(rt, terminals, node);
     let log = FileLog::volatile(rt.alloc());
     let tree = FileLog::volatile(rt.alloc());
-    match renew(rt.alloc(), node, log, tree, NoPages::new()) {
+    let renewed = renew(rt.alloc(), node, log, tree, NoPages::new());
+    progress.end(rt);
+    match renewed {
         Ok(renewed) => log_len(&renewed),
         Err(left) => Err(left.refusal),
     }

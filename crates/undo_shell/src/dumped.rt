@@ -18,7 +18,7 @@ pub fn dump<R>(rt: &R, terminals: Terminals, folder: Option<&str>) -> u8
 where
     R: Print + Eprint + AllocGlobal + Files<File = File> + Clock + Copy,
 {
-    match node_to_read(rt, folder, "dump") {
+    match node_to_read(rt, terminals, folder, "dump") {
         Ok(node) => print_records(rt, terminals, &node),
         Err(status) => status,
     }

@@ -71,7 +71,7 @@ where
     requires { log.pending ≡ [] }
 {
     let failure = log.failure();
-    match node_on(rt, folder, log) {
+    match node_on(rt, terminals, folder, log) {
         Ok(mut node) => {
             let mut progress = Progress::new(rt, terminals.errors);
             let put = put_all(rt, &mut node, text, &mut progress);

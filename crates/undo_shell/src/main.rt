@@ -14,6 +14,7 @@ mod loaded;
 mod measured;
 mod progress;
 mod refusals;
+mod rising;
 mod script;
 mod stored;
 mod terminals;
@@ -91,7 +92,7 @@ where
                 is_interactive: interactive | terminals.input,
                 prompts: terminals.input & terminals.output,
             };
-            run_task(&rt, manner, store, reads_only, creates)
+            run_task(&rt, terminals, manner, store, (reads_only, creates))
         }
         Ok(Task::Pool { sessions, rounds }) => play(rt, sessions, rounds),
         Ok(task) => perform(&rt, terminals, task),
@@ -100,15 +101,21 @@ where
 }
 
 /// Runs a script, on a store where one is named.
-fn run_task<R>(rt: &R, manner: Manner, store: Option<&str>, reads_only: bool, creates: bool) -> u8
+fn run_task<R>(
+    rt: &R,
+    terminals: Terminals,
+    manner: Manner,
+    store: Option<&str>,
+    (reads_only, creates): (bool, bool),
+) -> u8
 where
-    R: Input + Print + Eprint + AllocGlobal + Files<File = File> + Copy,
+    R: Input + Print + Eprint + AllocGlobal + Files<File = File> + Clock + Copy,
 {
     let Some(opening) = Opening::of(reads_only, creates) else {
         return print_faulty(rt, "--read-only makes no store, and --create does");
     };
     match (store, opening) {
-        (Some(folder), opening) => run_stored(rt, manner, opening, folder),
+        (Some(folder), opening) => run_stored(rt, terminals, manner, opening, folder),
         (None, Opening::Making) => print_wanting(rt, "--create"),
         (None, Opening::Reading) => print_wanting(rt, "--read-only"),
         (None, Opening::Writing) if manner.is_interactive => converse_in_memory(rt, manner),
@@ -122,11 +129,11 @@ where
     R: Input + Print + Eprint + AllocGlobal + Files<File = File> + Clock + Copy,
 {
     match task {
-        Task::Compact { store } => compact(rt, store),
+        Task::Compact { store } => compact(rt, terminals, store),
         Task::Check { store } => check(rt, terminals, store),
         Task::Dump { store } => dump(rt, terminals, store),
         Task::Load { store, creates } => load(rt, terminals, store, creates),
-        Task::Stat { store } => measure(rt, store),
+        Task::Stat { store } => measure(rt, terminals, store),
         Task::Explain { at } => tell_script(rt, Telling::Explained { at }),
         Task::Draw { last } => tell_script(rt, Telling::Drawn { last }),
         Task::Run { .. } | Task::Pool { .. } => FAULT,

@@ -3,11 +3,13 @@ ghost use Rattle.std.specs.Prelude.{◌≡◌, ◌<◌, true, length};
 ghost use Rattle.node_shell.specs.View.{leaves_shown};
 
 use crate::stored::{Node, node_to_read};
+use crate::terminals::Terminals;
 use codec::LentRows;
 use node_shell::{DONE, FAILED, refuse};
 use record_key::Refusal;
 use std::fs::{File, Files};
 use std::io;
+use std::time::Clock;
 
 /// How many records there are, and how many bytes they have.
 #[derive(Clone, Copy)]
@@ -20,11 +22,11 @@ struct Sizes {
 }
 
 /// Prints how large the records of the store in this folder are. Nothing of the store is changed.
-pub fn measure<R>(rt: &R, folder: Option<&str>) -> u8
+pub fn measure<R>(rt: &R, terminals: Terminals, folder: Option<&str>) -> u8
 where
-    R: Print + Eprint + AllocGlobal + Files<File = File> + Copy,
+    R: Print + Eprint + AllocGlobal + Files<File = File> + Clock + Copy,
 {
-    match node_to_read(rt, folder, "stat") {
+    match node_to_read(rt, terminals, folder, "stat") {
         Ok(node) => measure_node(rt, &node),
         Err(status) => status,
     }

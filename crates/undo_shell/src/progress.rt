@@ -21,6 +21,14 @@ impl Progress {
         }
     }
 
+    /// So much is done at once, and nothing is heard of it meanwhile. It is told where it will take about a second.
+    pub fn announce<R: Eprint>(&mut self, rt: &R, much: u64, in_a_second: u64, counted: &str) {
+        if self.started.is_some() & (much >= in_a_second) {
+            self.seconds = self.seconds.max(1);
+            let _ = eprint!(rt; "\r{much} {counted}");
+        }
+    }
+
     /// So much of what is counted is done.
     pub fn tell<R: Clock + Eprint>(&mut self, rt: &R, done: u64, counted: &str) {
         if let (0, Some(started)) = (done % STEPS, self.started) {

@@ -2,8 +2,11 @@
 ghost use Rattle.std.specs.Prelude.{◌≡◌, [], IfOk};
 
 use crate::conversing::converse;
+use crate::progress::Progress;
 use crate::refusals::Counting;
+use crate::rising::bring_to_rest;
 use crate::script::{Manner, read_script, tell_run};
+use crate::terminals::Terminals;
 use file_devices::{
     FileLog, FirstFailure, NoPages, StoreError, StoreFile, Torn, Tried, open_store, place_in_file,
     read_store, reopen_store, replace_log,
@@ -11,12 +14,20 @@ use file_devices::{
 use node_shell::{DONE, FAILED, FAULT, Shell, Stopping, refuse, run_on};
 use node_store::{Cause, open, renew};
 use record_key::Refusal;
+use stable::LogDevice;
 use std::fs::{File, Files};
 use std::io;
 use std::io::{LineWriter, Write};
-use world::{World, bring_up};
+use std::time::Clock;
+use world::World;
 
 pub type Node = World<FileLog, NoPages>;
+
+/// So many bytes of a log are judged in about a second.
+const JUDGED: u64 = 1 << 24;
+
+/// So many records are written anew in about a second.
+const RENEWED: u64 = 1 << 18;
 
 /// What a store is opened for.
 #[derive(Clone, Copy)]
@@ -42,12 +53,18 @@ impl Opening {
 }
 
 /// Runs a script on the store in this folder.
-pub fn run_stored<R>(rt: &R, manner: Manner, opening: Opening, folder: &str) -> u8
+pub fn run_stored<R>(
+    rt: &R,
+    terminals: Terminals,
+    manner: Manner,
+    opening: Opening,
+    folder: &str,
+) -> u8
 where
-    R: Input + Print + Eprint + AllocGlobal + Files<File = File> + Copy,
+    R: Input + Print + Eprint + AllocGlobal + Files<File = File> + Clock + Copy,
 {
     match opened(rt, folder, opening) {
-        Ok(log) => run_log(rt, manner, folder, log),
+        Ok(log) => run_log(rt, terminals, manner, folder, log),
         Err(StoreError::NotAStore) => print_missing(rt, folder, opening),
         Err(error) => print_unopened(rt, folder, &error),
     }
@@ -67,27 +84,27 @@ where
 }
 
 /// Writes the log of the store in this folder anew, and prints how many bytes it had and has.
-pub fn compact<R>(rt: &R, folder: Option<&str>) -> u8
+pub fn compact<R>(rt: &R, terminals: Terminals, folder: Option<&str>) -> u8
 where
-    R: Print + Eprint + AllocGlobal + Files<File = File> + Copy,
+    R: Print + Eprint + AllocGlobal + Files<File = File> + Clock + Copy,
 {
     let Some(folder) = folder else {
         return print_wanting(rt, "compact");
     };
     match reopen_store(rt, folder) {
-        Ok(log) => compact_log(rt, folder, log),
+        Ok(log) => compact_log(rt, terminals, folder, log),
         Err(error) => print_unopened(rt, folder, &error),
     }
 }
 
 /// Runs a script on the log of the store in this folder, and tells what of it the system has refused.
-fn run_log<R>(rt: &R, manner: Manner, folder: &str, log: FileLog) -> u8
+fn run_log<R>(rt: &R, terminals: Terminals, manner: Manner, folder: &str, log: FileLog) -> u8
 where
-    R: Input + Print + Eprint + AllocGlobal + Files<File = File>,
+    R: Input + Print + Eprint + AllocGlobal + Files<File = File> + Clock,
     requires { log.pending ≡ [] }
 {
     let failure = log.failure();
-    match node_on(rt, folder, log) {
+    match node_on(rt, terminals, folder, log) {
         Ok(world) => {
             let status = run_world(rt, manner, Box::into_inner(world));
             print_failure(rt, folder, failure, status)
@@ -97,39 +114,48 @@ where
 }
 
 /// A node on the log of the store in this folder, which is only read, for a subcommand of this name. Else the exit status.
-pub fn node_to_read<R>(rt: &R, folder: Option<&str>, name: &str) -> Result<Box<Node>, u8>
+pub fn node_to_read<R>(
+    rt: &R,
+    terminals: Terminals,
+    folder: Option<&str>,
+    name: &str,
+) -> Result<Box<Node>, u8>
 where
-    R: Eprint + AllocGlobal + Files<File = File> + Copy,
+    R: Eprint + AllocGlobal + Files<File = File> + Clock + Copy,
 {
     let Some(folder) = folder else {
         return Err(print_wanting(rt, name));
     };
     match read_store(rt, folder) {
-        Ok(log) => node_on(rt, folder, log),
+        Ok(log) => node_on(rt, terminals, folder, log),
         Err(error) => Err(print_unopened(rt, folder, &error)),
     }
 }
 
 /// A node on the log of the store in this folder, brought to rest; what its opening has left out is told first. Else the
 /// exit status.
-pub fn node_on<R>(rt: &R, folder: &str, log: FileLog) -> Result<Box<Node>, u8>
+pub fn node_on<R>(rt: &R, terminals: Terminals, folder: &str, log: FileLog) -> Result<Box<Node>, u8>
 where
-    R: Eprint + AllocGlobal + Files<File = File>,
+    R: Eprint + AllocGlobal + Files<File = File> + Clock,
     requires { log.pending ≡ [] }
 {
     let failure = log.failure();
-    let mut world = unsettled_on(rt, folder, log)?;
-    // (no client of an earlier process is there to be told)
-    match bring_up(&mut world, &mut Vec::new(rt.alloc())) {
+    let mut world = unsettled_on(rt, terminals, folder, log)?;
+    match bring_to_rest(rt, terminals, &mut world) {
         Ok(()) => Ok(world),
         Err(refusal) => Err(print_unsettled(rt, folder, failure, refusal)),
     }
 }
 
 /// A node on the log of the store in this folder, as it was opened.
-pub fn unsettled_on<R>(rt: &R, folder: &str, log: FileLog) -> Result<Box<Node>, u8>
+pub fn unsettled_on<R>(
+    rt: &R,
+    terminals: Terminals,
+    folder: &str,
+    log: FileLog,
+) -> Result<Box<Node>, u8>
 where
-    R: Eprint + AllocGlobal + Files<File = File>,
+    R: Eprint + AllocGlobal + Files<File = File> + Clock,
     requires { log.pending ≡ [] }
 {
     if let Some(torn) = log.torn() {
@@ -137,8 +163,12 @@ where
             return Err(FAILED);
         }
     }
+    let mut progress = Progress::new(rt, terminals.errors);
+    progress.announce(rt, log.held().len() as u64, JUDGED, "bytes of log are read");
     let tree = FileLog::volatile(rt.alloc());
-    let world = match open(rt.alloc(), log, tree, NoPages::new()) {
+    let opened = open(rt.alloc(), log, tree, NoPages::new());
+    progress.end(rt);
+    let world = match opened {
         Ok(world) => world,
         Err(left) => return Err(print_unread(rt, folder, left.cause)),
     };
@@ -185,31 +215,45 @@ where
     tell_run(rt, manner, &script, &text, status)
 }
 
-fn compact_log<R>(rt: &R, folder: &str, log: FileLog) -> u8
+fn compact_log<R>(rt: &R, terminals: Terminals, folder: &str, log: FileLog) -> u8
 where
-    R: Print + Eprint + AllocGlobal + Files<File = File>,
+    R: Print + Eprint + AllocGlobal + Files<File = File> + Clock,
     requires { log.pending ≡ [] }
 {
-    match node_on(rt, folder, log) {
-        Ok(world) => compact_node(rt, folder, &world),
+    match node_on(rt, terminals, folder, log) {
+        Ok(world) => compact_node(rt, terminals, folder, &world),
         Err(status) => status,
     }
 }
 
 /// Nobody is open in a node that was just opened: it has a log of its records alone. The store is open all the while.
-fn compact_node<R>(rt: &R, folder: &str, world: &Node) -> u8
+fn compact_node<R>(rt: &R, terminals: Terminals, folder: &str, world: &Node) -> u8
 where
-    R: Print + Eprint + AllocGlobal + Files<File = File>,
+    R: Print + Eprint + AllocGlobal + Files<File = File> + Clock,
 {
+    let progress = announce_renewal(rt, terminals, world);
     let log = FileLog::volatile(rt.alloc());
     let tree = FileLog::volatile(rt.alloc());
-    match renew(rt.alloc(), world, log, tree, NoPages::new()) {
+    let renewed = renew(rt.alloc(), world, log, tree, NoPages::new());
+    progress.end(rt);
+    match renewed {
         Ok(renewed) => match replaced(rt, folder, world, &renewed) {
             Ok(status) => status,
             Err(refusal) => print_unread(rt, folder, Cause::Refused(refusal)),
         },
         Err(left) => print_unread(rt, folder, Cause::Refused(left.refusal)),
     }
+}
+
+/// Tells that the records of a log are about to be written anew.
+pub fn announce_renewal<R>(rt: &R, terminals: Terminals, world: &Node) -> Progress
+where
+    R: Eprint + Clock,
+{
+    let mut progress = Progress::new(rt, terminals.errors);
+    let records = world.records().unwrap_or(0);
+    progress.announce(rt, records, RENEWED, "records of log are written anew");
+    progress
 }
 
 /// The log of the renewed node takes the place of the other's.

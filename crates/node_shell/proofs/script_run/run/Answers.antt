@@ -1,6 +1,6 @@
 use Rattle.std.proofs.Common.{List, ℕ, Option, subst}
 use Rattle.world.specs.node_laws.specs.Node.{NodeView}
-use Rattle.node_shell.specs.Labels.{Bindings, bound_number}
+use Rattle.node_shell.specs.Labels.{Bindings, bindings}
 use Rattle.node_shell.specs.Text.{WritesTextFrom}
 use Rattle.node_shell.proofs.Running.{on_new, unmade}
 use Rattle.node_shell.proofs.script_run.run.Goals as goal
@@ -10,7 +10,7 @@ returns-in-Ok g c =
     let given : Option (List ℕ) = g.R.Read.remaining c.args.reader.now in
     let old : Option (List ℕ) = g.W.Write.contents c.args.writer.now in
     let new : Option (List ℕ) = g.W.Write.contents c.run_in.new.writer in
-    let labels : Bindings = bound_number c.in-Ok.shell.labels in
+    let labels : Bindings = bindings c.in-Ok.shell.labels in
     let P : NodeView → Type 0 = λ view. WritesTextFrom c.args.continues view labels given old new c.run_in.result in
     on_new c.args.continues labels given old new c.run_in.result c.in-Ok.ensures.labels
     (subst P c.in-Ok.ensures.world c.run_in.ensures)

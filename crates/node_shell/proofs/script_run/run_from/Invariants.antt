@@ -1,6 +1,6 @@
 use Rattle.std.proofs.Common.{ℕ, List, ◌++◌, option_map}
 use Rattle.std.specs.Io.KnownBytes.{Appends}
-use Rattle.node_shell.specs.Labels.{bound_number}
+use Rattle.node_shell.specs.Labels.{bindings}
 use Rattle.node_shell.specs.Script.{size_left, parts_left, lines_from, commands_of}
 use Rattle.node_shell.specs.Text.{Runs, status_after}
 use Rattle.node_shell.proofs.script_run.run_from.Given as goal
@@ -11,9 +11,9 @@ invariant-loop-left g l = record {
   so_far : List ℕ;
   appended : Appends (g.W.Write.contents l.initial.writer) (g.W.Write.contents l.writer) so_far;
   goes_on : (text : List ℕ) (status : ℕ)
-      → Runs l.fn.continues (commands_of (parts_left 10 (option_map (λ s. s.now) l.left))) l.shell.world (bound_number l.shell.labels)
+      → Runs l.fn.continues (commands_of (parts_left 10 (option_map (λ s. s.now) l.left))) l.shell.world (bindings l.shell.labels)
       text status
-      → Runs l.fn.continues (commands_of (lines_from l.fn.script)) l.initial.shell.world (bound_number l.initial.shell.labels)
+      → Runs l.fn.continues (commands_of (lines_from l.fn.script)) l.initial.shell.world (bindings l.initial.shell.labels)
       (so_far ++ text) (status_after l.has_failed status);
 }
 

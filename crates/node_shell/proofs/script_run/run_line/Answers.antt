@@ -1,6 +1,6 @@
 use Rattle.std.proofs.Common.{ap, sym, ◌∙◌, option_map, subst}
 use Rattle.std.specs.Prelude.{Bool, Ok}
-use Rattle.node_shell.specs.Labels.{bound_number}
+use Rattle.node_shell.specs.Labels.{bindings}
 use Rattle.node_shell.specs.Script.{asked_by, meaning}
 use Rattle.node_shell.specs.Text.{WritesLine}
 use Rattle.node_shell.proofs.Running.{written_line, cut_line}
@@ -9,17 +9,17 @@ use Rattle.node_shell.proofs.script_run.run_line.Goals as goal
 pub returns-in-Ok : goal.returns-in-Ok
 returns-in-Ok g c =
     let P : Bool → Type 0 = λ failed. WritesLine (Ok failed) (asked_by c.args.line.now) c.args.shell.now.world
-    (bound_number c.args.shell.now.labels) c.perform-came.new.self.world (bound_number c.perform-came.new.self.labels)
+    (bindings c.args.shell.now.labels) c.perform-came.new.self.world (bindings c.perform-came.new.self.labels)
     (g.W.Write.contents c.args.writer.now) (g.W.Write.contents c.print.new.writer) in
     subst P (sym c.has_failed.ensures)
     (written_line (asked_by c.args.line.now) (meaning c.in-Some.line) c.args.shell.now.world
-    (bound_number c.args.shell.now.labels) c.perform-came.result c.perform-came.new.self.world
-    (bound_number c.perform-came.new.self.labels) _ _
+    (bindings c.args.shell.now.labels) c.perform-came.result c.perform-came.new.self.world
+    (bindings c.perform-came.new.self.labels) _ _
     (sym c.request.ensures ∙ ap (option_map meaning) c.in-Some.is) c.perform-came.ensures c.in-Ok.ensures)
 
 pub returns : goal.returns
 returns g c =
     cut_line _ (asked_by c.args.line.now) (meaning c.in-Some.line) c.args.shell.now.world
-    (bound_number c.args.shell.now.labels) c.perform-came.result c.perform-came.new.self.world
-    (bound_number c.perform-came.new.self.labels) _ _
+    (bindings c.args.shell.now.labels) c.perform-came.result c.perform-came.new.self.world
+    (bindings c.perform-came.new.self.labels) _ _
     (sym c.request.ensures ∙ ap (option_map meaning) c.in-Some.is) c.perform-came.ensures c.in-Err.ensures

@@ -1,4 +1,4 @@
-use Rattle.std.proofs.Common.{◌≡◌, ℕ, List, Some, None, subst}
+use Rattle.std.proofs.Common.{◌≡◌, ℕ, List, Some, None, refl, subst}
 use Rattle.std.specs.Prelude.{OnOk, OnErr}
 use Rattle.std.specs.Ordering.{nat_cmp}
 use Rattle.std.specs.Cmp.Lexicographic.{slice_cmp}
@@ -19,4 +19,5 @@ returns c =
     record {
       here = put_here c.args.self.now.numbers c.insert.new.self c.args.label.now c.args.number put;
       elsewhere = put_elsewhere c.args.self.now.numbers c.insert.new.self c.args.label.now (Some c.args.number) put;
+      scans = refl;
     }

@@ -1,6 +1,6 @@
 use Rattle.node_shell.specs.Stored.{row_line}
 use Rattle.node_shell.proofs.Printing.{prints_err, one_more, cut_at_next}
-use Rattle.node_shell.proofs.rows.print_packed.Goals as goal
+use Rattle.node_shell.proofs.rows.print_lent.Goals as goal
 
 pub loop-row-preserved : goal.loop-row-preserved
 loop-row-preserved g c =
