@@ -120,11 +120,15 @@ where
     R: Eprint + AllocGlobal + Clock,
 {
     let progress = announce_renewal(rt, terminals, node);
+    let len = renewed_len(rt, node);
+    progress.end(rt);
+    len
+}
+
+fn renewed_len<R: AllocGlobal>(rt: &R, node: &Node) -> Result<u64, Refusal> {
     let log = FileLog::volatile(rt.alloc());
     let tree = FileLog::volatile(rt.alloc());
-    let renewed = renew(rt.alloc(), node, log, tree, NoPages::new());
-    progress.end(rt);
-    match renewed {
+    match renew(rt.alloc(), node, log, tree, NoPages::new()) {
         Ok(renewed) => log_len(&renewed),
         Err(left) => Err(left.refusal),
     }

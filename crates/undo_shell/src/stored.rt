@@ -234,10 +234,8 @@ where
     let progress = announce_renewal(rt, terminals, world);
     let log = FileLog::volatile(rt.alloc());
     let tree = FileLog::volatile(rt.alloc());
-    let renewed = renew(rt.alloc(), world, log, tree, NoPages::new());
-    progress.end(rt);
-    match renewed {
-        Ok(renewed) => match replaced(rt, folder, world, &renewed) {
+    match renew(rt.alloc(), world, log, tree, NoPages::new()) {
+        Ok(renewed) => match replaced(rt, &progress, folder, world, &renewed) {
             Ok(status) => status,
             Err(refusal) => print_unread(rt, folder, Cause::Refused(refusal)),
         },
@@ -257,10 +255,17 @@ where
 }
 
 /// The log of the renewed node takes the place of the other's.
-fn replaced<R>(rt: &R, folder: &str, world: &Node, renewed: &Node) -> Result<u8, Refusal>
+fn replaced<R>(
+    rt: &R,
+    progress: &Progress,
+    folder: &str,
+    world: &Node,
+    renewed: &Node,
+) -> Result<u8, Refusal>
 where
     R: Print + Eprint + AllocGlobal + Files<File = File>,
 {
+    progress.end(rt);
     let had = world.stable_bytes()?.len();
     let bytes = renewed.stable_bytes()?;
     let has = bytes.len();
