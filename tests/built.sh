@@ -2,7 +2,8 @@
 # Usage: tests/built.sh [SHELL]. What no proved crate can try, since it starts other programs: the built shell (without
 # SHELL the one that the gate has built) is killed amid scripts on a store (bench/kill.py, forty runs), opens damaged
 # stores (bench/damage.py), lists in its help what docs/FORMATS.md lists (tests/help.sh), tells on standard error what it
-# is to (tests/told.py), and commits on a store that is copied meanwhile (tests/copied.py). First that docs/CONTRACTS.md is
+# is to (tests/told.py), commits on a store that is copied meanwhile (tests/copied.py), and is two processes with a network
+# between them (tests/network.py, ten runs). First that docs/CONTRACTS.md is
 # what the sources say. Takes a minute.
 set -eu
 cd "$(dirname "$0")/.."
@@ -16,3 +17,4 @@ python3 bench/damage.py "$shell"
 tests/help.sh "$shell"
 python3 tests/told.py "$shell"
 python3 tests/copied.py "$shell"
+python3 tests/network.py "$shell" 10 500

@@ -262,6 +262,27 @@ class Cases:
                        (text[:len(first)], re.fullmatch(rb"(\r[0-9]+ [a-z ]+|\r\x1b\[K)*\r\x1b\[K", text) is not None, status),
                        (first, True, 0))
 
+    def grown(self):
+        """A log of more than 4 MB, and of twice its first block, is written anew before a script is run, unless its store
+        is only read or the log is to be kept; one of fewer bytes isn't."""
+        # Messages are carried by hand: to settle is to sync the file.
+        carried = "send t\nreq 1\nrep 1\nforget\n"
+        once = ("begin t\nforget\n" + "".join(f"upsert t k{key:02} #{'61' * 120}\n{carried}" for key in range(60))
+                + "commit t\nsettle\n")
+        self.run("run --create --store small", "settle\n" + once * 5, 0)
+        self.run("run --create --store large", "settle\n" + once * 500, 0)
+        rows = "".join(f"k{key:02}={'a' * 120}\n" for key in range(60)) + "rows 60\n"
+        for words in ("small", "large --read-only", "large --keep-log"):
+            blocks = self.blocks(words.split()[0])
+            self.run(f"run --store {words}", "table\n", 0, rows)
+            # Whoever may write logs a session.
+            more = 0 if "read" in words else 1
+            self.judge(f"blocks of {words}", self.blocks(words.split()[0]), blocks + more)
+        self.run("run --store large", "table\n", 0, rows)
+        self.judge("a log that was written anew has a block, and a session", self.blocks("large"), 2)
+        self.run("run --store large", "table\n", 0, rows)
+        self.judge("and stays so", self.blocks("large"), 3)
+
     def blocks(self, folder):
         """How many blocks of version 2 a store's file has."""
         with open(f"{folder}/log", "rb") as file:
@@ -301,6 +322,7 @@ def main(shell):
     cases.conversing()
     cases.on_terminal()
     cases.far()
+    cases.grown()
     cases.places()
     print(f"what is told: {cases.agree} agree, {cases.differ} differ")
     return 1 if cases.differ else 0

@@ -233,12 +233,13 @@ is_help name false none e apart = go (bytes_eq (codes "help") name) refl e
         let P : Text → Type 0 = λ v. bytes_eq v (codes "help") ≡ false in
         absurd (cc (subst P (sym same) apart))
 
-abbrev chosen : Bool → Bool → Bool → Bool → Bool → Bool → Bool → Bool → Bool → Bool → Option Shape
-chosen r q x d c k o l t h = cond r (Some (shape_in 0 line.subs)) (cond q (Some pool_shape)
+abbrev chosen : Bool → Bool → Bool → Bool → Bool → Bool → Bool → Bool → Bool → Bool → Bool → Bool → Option Shape
+chosen r q x d c k o l t u v h = cond r (Some (shape_in 0 line.subs)) (cond q (Some pool_shape)
     (cond x (Some explain_shape) (cond d (Some draw_shape)
     (cond c (Some (shape_in 4 line.subs)) (cond k (Some (shape_in 5 line.subs))
     (cond o (Some (shape_in 6 line.subs)) (cond l (Some (shape_in 7 line.subs))
-    (cond t (Some (shape_in 8 line.subs)) (cond h (Some (shape_in 9 line.subs)) None)))))))))
+    (cond t (Some (shape_in 8 line.subs)) (cond u (Some (shape_in 9 line.subs))
+    (cond v (Some (shape_in 10 line.subs)) (cond h (Some (shape_in 11 line.subs)) None)))))))))))
 
 stop_taken : (stop : Option (Text × List Text)) → NoHelp stop → entered_fault line stop ≡ []
     → is_some (entered line stop) ≡ true → MayAskFor (entered line stop)
@@ -247,26 +248,30 @@ stop_taken (Some p) apart e some =
     go (answers_to p.0 (codes "run", [])) (answers_to p.0 (codes "pool", [])) (answers_to p.0 (codes "explain", []))
     (answers_to p.0 (codes "draw", [])) (answers_to p.0 (codes "compact", [])) (answers_to p.0 (codes "check", []))
     (answers_to p.0 (codes "dump", [])) (answers_to p.0 (codes "load", [])) (answers_to p.0 (codes "stat", []))
-    (answers_to p.0 (codes "help", [])) refl e some
+    (answers_to p.0 (codes "dc", [])) (answers_to p.0 (codes "tc", [])) (answers_to p.0 (codes "help", [])) refl e some
   where
-    go : (r q x d c k o l t h : Bool) → answers_to p.0 (codes "help", []) ≡ h
-        → option_map_or (λ s. level_fault s [] nothing_held p.1 false []) (chosen r q x d c k o l t h) [] ≡ []
-        → is_some (option_map (λ s. rows_at s p.1) (chosen r q x d c k o l t h)) ≡ true
-        → MayAskFor (option_map (λ s. rows_at s p.1) (chosen r q x d c k o l t h))
-    go true q x d c k o l t h asks e some = inl refl
-    go false true x d c k o l t h asks e some = pool_taken p.1 e
-    go false false true d c k o l t h asks e some = explain_taken p.1 e
-    go false false false true c k o l t h asks e some = draw_taken p.1 e
-    go false false false false true k o l t h asks e some = inr (inr (inr (inr (inl refl))))
-    go false false false false false true o l t h asks e some = inr (inr (inr (inr (inr (inl refl)))))
-    go false false false false false false true l t h asks e some = inr (inr (inr (inr (inr (inr (inl refl))))))
-    go false false false false false false false true t h asks e some =
+    go : (r q x d c k o l t u v h : Bool) → answers_to p.0 (codes "help", []) ≡ h
+        → option_map_or (λ s. level_fault s [] nothing_held p.1 false []) (chosen r q x d c k o l t u v h) [] ≡ []
+        → is_some (option_map (λ s. rows_at s p.1) (chosen r q x d c k o l t u v h)) ≡ true
+        → MayAskFor (option_map (λ s. rows_at s p.1) (chosen r q x d c k o l t u v h))
+    go true q x d c k o l t u v h asks e some = inl refl
+    go false true x d c k o l t u v h asks e some = pool_taken p.1 e
+    go false false true d c k o l t u v h asks e some = explain_taken p.1 e
+    go false false false true c k o l t u v h asks e some = draw_taken p.1 e
+    go false false false false true k o l t u v h asks e some = inr (inr (inr (inr (inl refl))))
+    go false false false false false true o l t u v h asks e some = inr (inr (inr (inr (inr (inl refl)))))
+    go false false false false false false true l t u v h asks e some = inr (inr (inr (inr (inr (inr (inl refl))))))
+    go false false false false false false false true t u v h asks e some =
         inr (inr (inr (inr (inr (inr (inr (inl refl)))))))
-    go false false false false false false false false true h asks e some =
-        inr (inr (inr (inr (inr (inr (inr (inr refl)))))))
-    go false false false false false false false false false true asks e some =
+    go false false false false false false false false true u v h asks e some =
+        inr (inr (inr (inr (inr (inr (inr (inr (inl refl))))))))
+    go false false false false false false false false false true v h asks e some =
+        inr (inr (inr (inr (inr (inr (inr (inr (inr (inl refl)))))))))
+    go false false false false false false false false false false true h asks e some =
+        inr (inr (inr (inr (inr (inr (inr (inr (inr (inr refl)))))))))
+    go false false false false false false false false false false false true asks e some =
         absurd (is_help p.0 false refl asks apart)
-    go false false false false false false false false false false asks e some = absurd (cc some)
+    go false false false false false false false false false false false false asks e some = absurd (cc some)
 
 -- words without a fault name a subcommand that is taken
 pub words_taken : (words : List Text) → fault_of command_line words ≡ [] → MayAskFor (subcommand_of command_line words)

@@ -29,7 +29,8 @@ MayAskFor (Some s) = (s.0 ≡ codes "run")
     ⊎ (((s.0 ≡ codes "explain") × MayCount s.1 (codes "at"))
     ⊎ (((s.0 ≡ codes "draw") × MayCount s.1 (codes "last"))
     ⊎ ((s.0 ≡ codes "compact") ⊎ ((s.0 ≡ codes "check")
-    ⊎ ((s.0 ≡ codes "dump") ⊎ ((s.0 ≡ codes "load") ⊎ (s.0 ≡ codes "stat"))))))))
+    ⊎ ((s.0 ≡ codes "dump") ⊎ ((s.0 ≡ codes "load") ⊎ ((s.0 ≡ codes "stat")
+    ⊎ ((s.0 ≡ codes "dc") ⊎ (s.0 ≡ codes "tc"))))))))))
 
 -- it is this number
 pub record IsGivenNumber (rows : List Row) (option : Text) (n : ℕ) : Type 0 where
@@ -63,15 +64,18 @@ NamesStore s name store = (s.0 ≡ name) × IsGivenText s.1 (codes "store") stor
 -- the task is what they ask for
 abbrev pub AsksFor : Option (Text × List Row) → Task → Type 0
 AsksFor None t = ⊥
-AsksFor (Some s) (task.Run continues store reads_only creates strict interactive) = NamesStore s (codes "run") store
+AsksFor (Some s) (task.Run continues store reads_only creates strict interactive keeps_log) = NamesStore s (codes "run") store
     × IsSet s.1 (codes "continue") continues
     × IsSet s.1 (codes "read-only") reads_only × IsSet s.1 (codes "create") creates
     × IsSet s.1 (codes "strict") strict × IsSet s.1 (codes "interactive") interactive
+    × IsSet s.1 (codes "keep-log") keeps_log
 AsksFor (Some s) (task.Compact store) = NamesStore s (codes "compact") store
 AsksFor (Some s) (task.Check store) = NamesStore s (codes "check") store
 AsksFor (Some s) (task.Dump store) = NamesStore s (codes "dump") store
 AsksFor (Some s) (task.Load store creates) = NamesStore s (codes "load") store × IsSet s.1 (codes "create") creates
 AsksFor (Some s) (task.Stat store) = NamesStore s (codes "stat") store
+AsksFor (Some s) (task.Dc store) = NamesStore s (codes "dc") store
+AsksFor (Some s) (task.Tc store script) = NamesStore s (codes "tc") store × IsGivenText s.1 (codes "script") script
 AsksFor (Some s) (task.Pool sessions rounds) = (s.0 ≡ codes "pool")
     × IsCount s.1 (codes "sessions") 8 sessions × IsCount s.1 (codes "rounds") 99 rounds
 AsksFor (Some s) (task.Explain at) = (s.0 ≡ codes "explain") × IsGivenCount s.1 (codes "at") at
@@ -79,12 +83,14 @@ AsksFor (Some s) (task.Draw last) = (s.0 ≡ codes "draw") × IsGivenCount s.1 (
 
 -- it is a script or a store, or there is a client
 abbrev pub HasClient : Task → Type 0
-HasClient (task.Run continues store reads_only creates strict interactive) = ⊤
+HasClient (task.Run continues store reads_only creates strict interactive keeps_log) = ⊤
 HasClient (task.Compact store) = ⊤
 HasClient (task.Check store) = ⊤
 HasClient (task.Dump store) = ⊤
 HasClient (task.Load store creates) = ⊤
 HasClient (task.Stat store) = ⊤
+HasClient (task.Dc store) = ⊤
+HasClient (task.Tc store script) = ⊤
 HasClient (task.Pool sessions rounds) = 0 < sessions
 HasClient (task.Explain at) = ⊤
 HasClient (task.Draw last) = ⊤

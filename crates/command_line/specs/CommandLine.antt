@@ -65,13 +65,17 @@ counting_refusals = flag_option (codes "strict")
 abbrev pub interacting : Rule
 interacting = flag_option (codes "interactive")
 
--- to run a script, without these three
+-- the log of the store isn't written anew where it has grown long
+abbrev pub keeping_log : Rule
+keeping_log = flag_option (codes "keep-log")
+
+-- to run a script, without these four
 abbrev pub plain_run : App
 plain_run = with_rule (with_rule (with_rule (new_app (codes "run")) continuing) storing) reading
 
 -- to run a script
 abbrev pub run : App
-run = with_rule (with_rule (with_rule plain_run creating) counting_refusals) interacting
+run = with_rule (with_rule (with_rule (with_rule plain_run creating) counting_refusals) interacting) keeping_log
 
 -- to do something with a store
 abbrev pub on_store : Text → App
@@ -96,6 +100,18 @@ load = with_rule (on_store (codes "load")) creating
 -- to measure the rows of a store
 abbrev pub stat : App
 stat = on_store (codes "stat")
+
+-- to serve requests as they come in
+abbrev pub dc : App
+dc = on_store (codes "dc")
+
+-- the script that is played
+abbrev pub scripting : Rule
+scripting = naming (codes "script")
+
+-- to play a script over a stream of messages
+abbrev pub tc : App
+tc = with_rule (on_store (codes "tc")) scripting
 
 -- to let clients play on threads
 abbrev pub pool : App
@@ -130,15 +146,23 @@ abbrev pub of_scripts : App
 of_scripts =
     with_subcommand (with_subcommand (with_subcommand (with_subcommand program run.top) pool.top) explain.top) draw.top
 
--- the program and all that it may be told: also what is done with a store
-abbrev pub command_line : App
-command_line = with_subcommand (with_subcommand
+-- the program with what it may be told of stores too
+abbrev pub of_stores : App
+of_stores = with_subcommand (with_subcommand
     (with_subcommand (with_subcommand (with_subcommand of_scripts compact.top) check.top) dump.top) load.top) stat.top
+
+-- the program and all that it may be told: also to be one half of a node
+abbrev pub command_line : App
+command_line = with_subcommand (with_subcommand of_stores dc.top) tc.top
 
 -- what it may be told to do
 abbrev pub subcommands : List Shape
 subcommands =
     run.top ∷ pool.top ∷ explain.top ∷ draw.top ∷ compact.top ∷ check.top ∷ dump.top ∷ load.top ∷ stat.top ∷ []
+
+-- and to be
+abbrev pub halves : List Shape
+halves = dc.top ∷ tc.top ∷ []
 
 -- it hands no argument down to subcommands
 abbrev pub IsLocal : Command → Type 0

@@ -7,11 +7,12 @@ ghost use Rattle.clap.specs.Matches.{found_of};
 ghost use Rattle.clap.specs.Simple.{app_of, shape_of, subcommand_of, subcommand_rows_of};
 ghost use Rattle.clap.specs.Walk.{rows_of, rule_of};
 ghost use Rattle.command_line.specs.Asked.{AsksFor, HasClient, IsGivenCount, IsGivenNumber, MayAskFor, MayCount, NamesCount};
-ghost use Rattle.command_line.specs.CommandLine.{IsLocal, check, command_line, compact, counting, draw, dump, explain, flag_option, load, naming, numbering, on_store, plain_run, pool, run, stat, subcommands};
+ghost use Rattle.command_line.specs.CommandLine.{IsLocal, check, command_line, compact, counting, dc, draw, dump, explain, flag_option, halves, load, naming, numbering, on_store, plain_run, pool, run, stat, subcommands, tc};
 
 use crate::help::{
     CHECKED, CLIENTS, COMPACTED, CONTINUING, CREATING, DRAWN, DUMPED, EXPLAINED, INTERACTIVE,
-    LINES, LOADED, MEASURED, READING, STORING, STRICT, THE_STORE, VERSION,
+    KEEPING, LINES, LOADED, MEASURED, PLAYED, READING, SCRIPT, SERVED, STORING, STRICT, THE_STORE,
+    VERSION,
 };
 use clap::builder::ValueParser;
 use clap::{Arg, ArgAction, ArgMatches, Command, Error};
@@ -24,7 +25,8 @@ pub enum Task<'a> {
     /// A script is read from standard input and run, also on behind a line in which memory or a device failed where it
     /// continues. The node is that of the store in this folder where one is named, else a new one in memory; where it is
     /// to be read only, nothing is written to the store, and where it may be created, it is made if it isn't there. A
-    /// strict run tells how many lines were refused; an interactive one runs each line as soon as it was read.
+    /// strict run tells how many lines were refused; an interactive one runs each line as soon as it was read; one that keeps
+    /// the log doesn't write it anew where it has grown long.
     Run {
         continues: bool,
         store: Option<&'a str>,
@@ -32,6 +34,7 @@ pub enum Task<'a> {
         creates: bool,
         strict: bool,
         interactive: bool,
+        keeps_log: bool,
     },
     /// The log of the store in this folder is written anew, with just the records that stand.
     Compact {
@@ -53,6 +56,17 @@ pub enum Task<'a> {
     /// The rows of the store in this folder are measured, and nothing of it is changed.
     Stat {
         store: Option<&'a str>,
+    },
+    /// Requests come in on standard input, and are served; replies go to standard output. The log of leaves is in the store
+    /// in this folder where one is named, else in memory.
+    Dc {
+        store: Option<&'a str>,
+    },
+    /// The script in this file is played by the transaction component of the store in this folder; its requests go to
+    /// standard output, and replies come in on standard input.
+    Tc {
+        store: Option<&'a str>,
+        script: Option<&'a str>,
     },
     /// So many clients, each with a session of its own, play so many rounds on threads.
     Pool {
@@ -133,6 +147,17 @@ fn task_of<'a>(matches: &ArgMatches<'a>) -> Task<'a>
             store: asked.get_str("store"),
         };
     }
+    if let Some(asked) = matches.subcommand_matches("dc") {
+        return Task::Dc {
+            store: asked.get_str("store"),
+        };
+    }
+    if let Some(asked) = matches.subcommand_matches("tc") {
+        return Task::Tc {
+            store: asked.get_str("store"),
+            script: asked.get_str("script"),
+        };
+    }
     match matches.subcommand_matches("run") {
         Some(asked) => Task::Run {
             continues: asked.get_flag("continue"),
@@ -141,6 +166,7 @@ fn task_of<'a>(matches: &ArgMatches<'a>) -> Task<'a>
             creates: asked.get_flag("create"),
             strict: asked.get_flag("strict"),
             interactive: asked.get_flag("interactive"),
+            keeps_log: asked.get_flag("keep-log"),
         },
         None => unreachable!(),
     }
@@ -173,12 +199,14 @@ fn command_line<'a>(alloc: Global) -> Result<Command<'a>, AllocError>
     ensures { IfOk result (λ program. app_of program ≡ command_line) }
 {
     let subcommands = subcommands(alloc)?;
+    let halves = halves(alloc)?;
     Command::new(alloc, "undo_shell")
         .about("A database kernel in two components that undoes by logged compensations")
         .version(VERSION)
         .after_help(LINES)
         .subcommand_required(true)
-        .subcommands(subcommands)
+        .subcommands(subcommands)?
+        .subcommands(halves)
 }
 
 // What the program may be told to do. (A command is large, and each way out on which one is dropped is dear to check: so
@@ -200,7 +228,18 @@ fn subcommands<'a>(alloc: Global) -> Result<Vec<Command<'a>>, AllocError>
     Ok(commands)
 }
 
-// What runs a script. (Six options of one command are dear to check.)
+// What it may be told to be one half of.
+fn halves<'a>(alloc: Global) -> Result<Vec<Command<'a>>, AllocError>
+    ensures local { IfOk result (λ commands. AllByRecursion IsLocal commands.items) }
+    ensures shapes { IfOk result (λ commands. map shape_of commands.items ≡ halves) }
+{
+    let mut commands = Vec::with_capacity(alloc, 2)?;
+    commands.push(dc_command(alloc)?)?;
+    commands.push(tc_command(alloc)?)?;
+    Ok(commands)
+}
+
+// What runs a script. (Seven options of one command are dear to check.)
 fn run_command<'a>(alloc: Global) -> Result<Command<'a>, AllocError>
     ensures local { IfOk result IsLocal }
     ensures app { IfOk result (λ command. app_of command ≡ run) }
@@ -209,7 +248,8 @@ fn run_command<'a>(alloc: Global) -> Result<Command<'a>, AllocError>
     command
         .arg(flag_option(alloc, "create").help(CREATING))?
         .arg(flag_option(alloc, "strict").help(STRICT))?
-        .arg(flag_option(alloc, "interactive").help(INTERACTIVE))
+        .arg(flag_option(alloc, "interactive").help(INTERACTIVE))?
+        .arg(flag_option(alloc, "keep-log").help(KEEPING))
 }
 
 fn plain_run<'a>(alloc: Global) -> Result<Command<'a>, AllocError>
@@ -268,6 +308,25 @@ fn stat_command<'a>(alloc: Global) -> Result<Command<'a>, AllocError>
 {
     let about = "Counts the records of a store, and how long their keys and values are";
     on_store(alloc, "stat", about, MEASURED)
+}
+
+// What is one half of a node.
+fn dc_command<'a>(alloc: Global) -> Result<Command<'a>, AllocError>
+    ensures local { IfOk result IsLocal }
+    ensures app { IfOk result (λ command. app_of command ≡ dc) }
+{
+    let about = "Serves requests from standard input, and writes their replies to standard output";
+    on_store(alloc, "dc", about, SERVED)
+}
+
+// What is the other half.
+fn tc_command<'a>(alloc: Global) -> Result<Command<'a>, AllocError>
+    ensures local { IfOk result IsLocal }
+    ensures app { IfOk result (λ command. app_of command ≡ tc) }
+{
+    let about = "Plays a script; requests go to standard output, replies come from standard input";
+    let script = naming(alloc, "script", "FILE").help(SCRIPT);
+    on_store(alloc, "tc", about, PLAYED)?.arg(script)
 }
 
 // What does something with a store.

@@ -5,30 +5,31 @@ ghost use Rattle.record_key.specs.Table.{key_of};
 ghost use Rattle.codec.specs.Requests.{HasRequestNumbers};
 ghost use Rattle.btree.specs.Leaves.{leaf_at};
 ghost use Rattle.dc_core.specs.DcView.{leaves};
-ghost use Rattle.dc_core.specs.Kept.{IsDc};
 ghost use Rattle.dc_core.specs.Serves.{runs, connect_refusal, MayAsk};
 ghost use Rattle.dc_core.specs.Shows.{was_added, Follows, IsOn, IsSavedOn, NoneHidden, MayCome, ShowsPerform, ShowsTakeBack, Shows};
-ghost use Rattle.dc_core.specs.Seen.{seen};
 
-use crate::parts::Parts;
+use crate::dc::Dc;
 use codec::{NUMBER_LIMIT, Request};
 use record_key::{Answer, Entries, Entry, Key, Op};
 use stable::{LogDevice, PageDevice};
 
-impl<D: LogDevice, P: PageDevice> Parts<D, P> {
-    /// Whether each number of the request is below its bound and the leaves show what its caller owes. What a low
-    /// number has hidden they don't show.
+impl<D: LogDevice, P: PageDevice> Dc<D, P> {
+    /// What a caller asks who doesn't know a request's numbers: whether the leaves tell that each is below 2^48; that an
+    /// operation's number is on the key that it has among the performances and in each leaf's entries, and a new one
+    /// comes after those performed on its key; and that what was performed above the end of a session that begins can
+    /// be taken back. They don't tell of what a low number has hidden: no where an operation's number isn't above each
+    /// low one, or an end is below one. It reads all leaves, so a caller that knows its numbers doesn't ask.
     pub fn may_ask(&self, request: &Request) -> bool
-        requires { IsDc (seen self.now) }
-        ensures told { IsTrue result ↔ (HasRequestNumbers request.now × Shows (seen self.now) request.now) }
-        ensures owed { IsTrue result → HasRequestNumbers request.now × MayAsk (seen self.now) request.now }
+        ensures told { IsTrue result ↔ (HasRequestNumbers request.now × Shows self.now request.now) }
+        ensures owed { IsTrue result → HasRequestNumbers request.now × MayAsk self.now request.now }
     {
+        self.kept();
         has_numbers(request) && self.may_serve(request)
     }
 
     fn may_serve(&self, request: &Request) -> bool
         requires { HasRequestNumbers request.now }
-        ensures { IsTrue result ↔ Shows (seen self.now) request.now }
+        ensures { IsTrue result ↔ Shows self.now request.now }
     {
         match request {
             Request::Connect { session, end } => self.may_connect(*session, *end),
@@ -37,7 +38,7 @@ impl<D: LogDevice, P: PageDevice> Parts<D, P> {
                 number,
                 op,
                 ..
-            } => match self.in_session(*session) {
+            } => match self.allows_session(*session) {
                 Ok(()) => self.may_perform(*number, op),
                 // It will be refused.
                 Err(_) => true,
@@ -49,8 +50,8 @@ impl<D: LogDevice, P: PageDevice> Parts<D, P> {
     fn may_connect(&self, session: u64, end: u64) -> bool
         requires { end < 2 ^ 48 }
         ensures { IsTrue result
-            ↔ (connect_refusal (seen self.now) session ≡ None
-            → runs (seen self.now) session ≡ false → ShowsTakeBack (seen self.now) end) }
+            ↔ (connect_refusal self.now session ≡ None
+            → runs self.now session ≡ false → ShowsTakeBack self.now end) }
     {
         if self.runs(session) {
             return true;
@@ -64,19 +65,19 @@ impl<D: LogDevice, P: PageDevice> Parts<D, P> {
 
     fn may_take_back(&self, end: u64) -> bool
         requires { end < 2 ^ 48 }
-        ensures { IsTrue result ↔ ShowsTakeBack (seen self.now) end }
+        ensures { IsTrue result ↔ ShowsTakeBack self.now end }
     {
         self.opened_to <= end && self.none_hidden(end + 1)
     }
 
     fn may_perform(&self, number: u64, op: &Op) -> bool
-        ensures { IsTrue result ↔ ShowsPerform (seen self.now) number op.now }
+        ensures { IsTrue result ↔ ShowsPerform self.now number op.now }
     {
         self.none_hidden(number) && self.is_saved_on(number, op.key()) && self.may_come(number, op)
     }
 
     fn may_come(&self, number: u64, op: &Op) -> bool
-        ensures { IsTrue result ↔ MayCome (seen self.now) number op.now }
+        ensures { IsTrue result ↔ MayCome self.now number op.now }
     {
         self.captures(number, op.key()) || self.comes_next(number, op)
     }
@@ -84,7 +85,7 @@ impl<D: LogDevice, P: PageDevice> Parts<D, P> {
     /// Whether each entry on the operation's key has a lower number, or both are Adds.
     fn comes_next(&self, number: u64, op: &Op) -> bool
         ensures { IsTrue result ↔ AllByRecursion (Follows number op.now)
-            (leaf_at (leaves (seen self.now)) (key_of op.now)).ab.entries }
+            (leaf_at (leaves self.now) (key_of op.now)).ab.entries }
     {
         let place = self.system.place_of(op.key());
         follows_all(self.system.leaf(place).entries(), number, op)
@@ -92,7 +93,7 @@ impl<D: LogDevice, P: PageDevice> Parts<D, P> {
 
     /// Whether each low number is below this one.
     fn none_hidden(&self, number: u64) -> bool
-        ensures { IsTrue result ↔ NoneHidden (seen self.now) number }
+        ensures { IsTrue result ↔ NoneHidden self.now number }
     {
         for place in 0..self.system.len() {
             if number <= self.system.leaf(place).low() {
@@ -104,7 +105,7 @@ impl<D: LogDevice, P: PageDevice> Parts<D, P> {
 
     /// Whether no leaf's entry has the number on another key.
     fn is_saved_on(&self, number: u64, key: &Key) -> bool
-        ensures { IsTrue result ↔ IsSavedOn (seen self.now) number key.now }
+        ensures { IsTrue result ↔ IsSavedOn self.now number key.now }
     {
         for place in 0..self.system.len() {
             if !are_on(self.system.leaf(place).entries(), number, key) {

@@ -8,10 +8,10 @@
 //! only in a session past its redo.
 #![tactic(auto)]
 
+mod allowing;
 mod asking;
 mod base;
 mod dc;
-mod parts;
 mod performance;
 mod performances;
 mod performing;

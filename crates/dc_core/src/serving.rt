@@ -1,41 +1,38 @@
-//! What each kind of request does to the parts.
+//! What each kind of request does.
 ghost use Rattle.std.specs.Prelude.{◌≡◌, Some, None, IfOk, IfErr, OnOk, OnErr};
 ghost use Rattle.record_key.specs.Lent.{op_lent};
 ghost use Rattle.codec.specs.Parted.{request_to};
 ghost use Rattle.codec.specs.Requests.{HasRequestNumbers};
-ghost use Rattle.dc_core.specs.DcView.{leaves};
-ghost use Rattle.dc_core.specs.Performing.{reply_with};
-ghost use Rattle.dc_core.specs.Serves.{serve_refusal, session_refusal, MayAsk, lowers, ServeGives, Serves, Stops};
-ghost use Rattle.dc_core.specs.Kept.{IsDc};
-ghost use Rattle.dc_core.specs.Seen.{seen};
+ghost use Rattle.dc_core.specs.Performing.{replied};
+ghost use Rattle.dc_core.specs.Serves.{serve_refusal, session_refusal, MayAsk, ServeGives, Serves, Stops};
 
-use crate::parts::Parts;
+use crate::dc::Dc;
 use codec::{Asking, Reply, Request};
 use page::AnswerSink;
 use record_key::{Op, OpRef, Refusal};
 use stable::{LogDevice, PageDevice};
 
-impl<D: LogDevice, P: PageDevice> Parts<D, P> {
+impl<D: LogDevice, P: PageDevice> Dc<D, P> {
+    /// Does what the request asks, and gives the reply to it, if there is one. Refused as `allows` says and unchanged
+    /// then; else NoMemory, and unchanged, for a new number, a Scan, a Checkpoint or a Connect; NotNow, and unchanged,
+    /// for a Checkpoint where a leaf has an entry above the known end; Device, only where a device's call was due to
+    /// fail, for a Connect, which may leave its record in the log and takes no session then, and for a Checkpoint,
+    /// which has raised all leaves then and may have written some.
     pub fn serve(&mut self, request: &Request) -> Result<Option<Reply>, Refusal>
-        requires kept { IsDc (seen self.old) }
         requires numbers { HasRequestNumbers request.now }
-        requires owed { MayAsk (seen self.old) request.now }
-        ensures kept { IsDc (seen self.new) }
-        ensures gives { ServeGives (seen self.old) request.now result (seen self.new) }
+        requires owed { MayAsk self.old request.now }
+        ensures gives { ServeGives self.old request.now result self.new }
     {
         self.allows(request)?;
-        self.reply_to(request)
+        self.serve_allowed(request)
     }
 
-    /// Does what an allowed request asks.
-    pub fn reply_to(&mut self, request: &Request) -> Result<Option<Reply>, Refusal>
-        requires kept { IsDc (seen self.old) }
-        requires allowed { serve_refusal (seen self.old) request.now ≡ None }
+    /// The same for a caller that has asked `allows`: each request is judged once.
+    pub fn serve_allowed(&mut self, request: &Request) -> Result<Option<Reply>, Refusal>
+        requires allowed { serve_refusal self.old request.now ≡ None }
         requires numbers { HasRequestNumbers request.now }
-        requires owed { MayAsk (seen self.old) request.now }
-        ensures kept { IsDc (seen self.new) }
-        ensures served { IfOk result (λ reply. Serves (seen self.old) request.now reply (seen self.new)) }
-        ensures stopped { IfErr result (λ refusal. Stops (seen self.old) request.now refusal (seen self.new)) }
+        requires owed { MayAsk self.old request.now }
+        ensures gives { ServeGives self.old request.now result self.new }
     {
         match request {
             Request::Connect { session, end } => Ok(Some(self.connect(*session, *end)?)),
@@ -52,7 +49,7 @@ impl<D: LogDevice, P: PageDevice> Parts<D, P> {
                 };
                 Ok(Some(self.answer_to(asking, op)?))
             }
-            Request::Get { session, read, key } => Ok(Some(self.get(*session, *read, key))),
+            Request::Get { session, read, key } => Ok(Some(self.read(*session, *read, key))),
             Request::Scan {
                 session,
                 read,
@@ -73,18 +70,16 @@ impl<D: LogDevice, P: PageDevice> Parts<D, P> {
     }
 
     fn answer_to(&mut self, asking: Asking, op: &Op) -> Result<Reply, Refusal>
-        requires kept { IsDc (seen self.old) }
-        requires allowed { session_refusal (seen self.old) asking.session ≡ None }
+        requires allowed { session_refusal self.old asking.session ≡ None }
         requires numbers { HasRequestNumbers (request_to asking op.now) }
-        requires owed { MayAsk (seen self.old) (request_to asking op.now) }
-        ensures kept { IsDc (seen self.new) }
-        ensures served { IfOk result (λ reply. Serves (seen self.old) (request_to asking op.now) (Some reply)
-            (seen self.new)) }
-        ensures stopped { IfErr result (λ refusal. Stops (seen self.old) (request_to asking op.now) refusal
-            (seen self.new)) }
+        requires owed { MayAsk self.old (request_to asking op.now) }
+        ensures served { IfOk result (λ reply. Serves self.old (request_to asking op.now) (Some reply)
+            self.new) }
+        ensures stopped { IfErr result (λ refusal. Stops self.old (request_to asking op.now) refusal
+            self.new) }
     {
         let mut answer = None;
-        match self.perform_asked(asking, &op.lent(), &mut answer) {
+        match self.perform(asking, &op.lent(), &mut answer) {
             Ok(()) => Ok(Reply::Answered {
                 session: asking.session,
                 number: asking.number,
@@ -94,27 +89,24 @@ impl<D: LogDevice, P: PageDevice> Parts<D, P> {
         }
     }
 
-    /// Performs what an allowed request asks, whose operation is handed apart. The answer goes into the sink.
-    pub fn perform_asked<S: AnswerSink>(
+    /// What `serve_allowed` does of a request to perform, for a caller that has its operation apart and a sink for the
+    /// answer.
+    pub fn perform<S: AnswerSink>(
         &mut self,
         asking: Asking,
         op: &OpRef<'_>,
         sink: &mut S,
     ) -> Result<(), Refusal>
-        requires kept { IsDc (seen self.old) }
-        requires allowed { session_refusal (seen self.old) asking.session ≡ None }
+        requires allowed { session_refusal self.old asking.session ≡ None }
         requires numbers { HasRequestNumbers (request_to asking (op_lent op.now)) }
-        requires owed { MayAsk (seen self.old) (request_to asking (op_lent op.now)) }
+        requires owed { MayAsk self.old (request_to asking (op_lent op.now)) }
         requires may_take { S.may_take sink.old asking.session asking.number }
-        ensures kept { IsDc (seen self.new) }
-        ensures served { OnOk result (Serves (seen self.old) (request_to asking (op_lent op.now))
-            (Some (reply_with asking (S.told sink.new))) (seen self.new)) }
+        ensures gives { ServeGives self.old (request_to asking (op_lent op.now))
+            (replied asking result (S.told sink.new)) self.new }
         ensures given { OnOk result (S.takes sink.old asking.session asking.number (S.told sink.new) sink.new) }
-        ensures stopped { IfErr result (λ refusal. Stops (seen self.old) (request_to asking (op_lent op.now)) refusal
-            (seen self.new)) }
         ensures untold { OnErr result (sink.new ≡ sink.old) }
     {
-        self.perform(asking.number, op, asking.session, sink)?;
+        self.perform_once(asking.number, op, asking.session, sink)?;
         self.learn(asking.stable);
         Ok(())
     }

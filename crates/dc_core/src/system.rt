@@ -3,7 +3,6 @@ ghost use Rattle.std.specs.Prelude.{◌≡◌};
 ghost use Rattle.dc_core.specs.DcView.{top_of};
 
 use btree::Tree;
-use page::Leaf;
 use stable::{LogDevice, PageDevice};
 use system_txn::SystemTxns;
 

@@ -47,6 +47,18 @@ pub fn count_blocks<R: Files<File = File> + AllocGlobal>(
     Ok(u64::MAX)
 }
 
+/// How many bytes of the log the first block of its file has: after a compaction all that were left.
+pub fn first_len<R: Files<File = File> + AllocGlobal>(
+    rt: &R,
+    folder: &str,
+) -> Result<u64, StoreError> {
+    let file = read_log(rt, folder)?;
+    match first_block(&file) {
+        Some((block, _)) => Ok(block.len),
+        None => Ok(0),
+    }
+}
+
 /// Each block cuts the log to its start: a byte behind that stands in it, or nowhere up to the next block.
 fn place_of(file: &[u8], byte: u64) -> Option<u64> {
     let mut found = None;

@@ -1,6 +1,6 @@
 //! How a device over files was used, and the call of it that was set to fail. The system may refuse any other too.
 ghost use Rattle.std.specs.Prelude.{◌≡◌, ◌≤◌, Some, Err, false, IsTrue, OnOk, IsOkUnless};
-ghost use Rattle.stable.specs.Usage.{is_due, is_set, used, failing_in};
+ghost use Rattle.stable.specs.Usage.{IsToCome, is_due, is_set, used, failing_in};
 ghost use Rattle.stable.specs.declared.error.DeviceError.TheVariants.{Device};
 ghost use Rattle.file_devices.specs.Failing.{freely_unused, refused};
 
@@ -17,7 +17,7 @@ pub(crate) struct Faults {
 
 impl Model for Faults {
     ghost use Rattle.std.specs.Prelude.{true};
-    ghost use Rattle.stable.specs.Usage.{Usage, counted_from};
+    ghost use Rattle.stable.specs.Usage.{Counts, Usage, counted_from};
 
     ghost Value = { Usage };
 
@@ -27,6 +27,8 @@ impl Model for Faults {
       failing = counted_from f.calls.count f.countdown;
       freely = true;
     } };
+
+    ghost invariant = { λ f. Counts f.countdown };
 }
 
 impl Faults {
@@ -38,6 +40,13 @@ impl Faults {
             calls: Counter::new(),
             failures: Counter::new(),
         }
+    }
+
+    /// What holds at every moment: a failure that was set is still to come.
+    pub(crate) fn kept(&self)
+        ensures { IsToCome self.now }
+    {
+        let _ = &self.countdown;
     }
 
     /// The `n`-th call from now fails.

@@ -156,6 +156,10 @@ impl LogDevice for FileLog {
         Ok(&self.bytes)
     }
 
+    fn kept(&self) {
+        self.faults.kept();
+    }
+
     fn held(&self) -> &[u8] {
         &self.bytes
     }

@@ -17,7 +17,7 @@ mod renewal;
 mod store;
 mod store_error;
 
-pub use blocks::{count_blocks, place_in_file};
+pub use blocks::{count_blocks, first_len, place_in_file};
 pub use file_log::{FileLog, Torn};
 pub use first_failure::FirstFailure;
 pub use no_pages::NoPages;

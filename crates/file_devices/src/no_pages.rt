@@ -45,6 +45,10 @@ impl PageDevice for NoPages {
 
     ghost usage = { λ device. device };
 
+    fn kept(&self) {
+        self.faults.kept();
+    }
+
     fn make_room(&mut self, _id: u64, _len: usize) -> Result<(), AllocError> {
         Ok(())
     }

@@ -8,7 +8,7 @@
 #![tactic(auto)]
 
 mod effects;
-mod parts;
+mod following;
 mod replay;
 mod values;
 

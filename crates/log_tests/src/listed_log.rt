@@ -1,6 +1,6 @@
 //! A log device written against the trait alone, as one outside this crate is.
 ghost use Rattle.std.specs.Prelude.{◌≡◌, false, IsTrue, OnOk, IsOkUnless};
-ghost use Rattle.stable.specs.Usage.{is_due, is_set, used};
+ghost use Rattle.stable.specs.Usage.{IsToCome, is_due, is_set, used};
 
 use stable::{Counter, DeviceError, LogDevice, Spelling};
 use std::alloc::Global;
@@ -38,6 +38,13 @@ impl Model for Faults {
 }
 
 impl Faults {
+    // None is ever set.
+    fn kept(&self)
+        ensures { IsToCome self.now }
+    {
+        let _ = &self.listed;
+    }
+
     fn call(&mut self) -> Result<(), DeviceError>
         ensures no_memory { IsOkUnless result DeviceError.Device }
         ensures set { OnOk result (is_set self.old ≡ false) }
@@ -124,6 +131,10 @@ impl LogDevice for ListedLog {
     fn bytes(&mut self) -> Result<&[u8], DeviceError> {
         self.faults.call()?;
         Ok(&self.bytes)
+    }
+
+    fn kept(&self) {
+        self.faults.kept();
     }
 
     fn held(&self) -> &[u8] {

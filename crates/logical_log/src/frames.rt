@@ -15,7 +15,7 @@ ghost use Rattle.record_key.specs.FirstCause.{MayRefuse};
 ghost use Rattle.record_key.specs.declared.op.Op.{Op};
 ghost use Rattle.record_key.specs.declared.op.Answer.{Answer};
 ghost use Rattle.stable.specs.Device.{ForcesPart};
-ghost use Rattle.stable.specs.Usage.{is_due, called, failed, failing_in};
+ghost use Rattle.stable.specs.Usage.{IsToCome, is_due, called, failed, failing_in};
 ghost use Rattle.logical_log.specs.Kept.{with_appended, with_usage};
 ghost use Rattle.framed_log.specs.Refused.{refused_use};
 ghost use Rattle.framed_log.specs.Beginning.{beginning};
@@ -105,6 +105,13 @@ impl<D: LogDevice> Frames<D> {
             frame: _,
         } = self;
         device
+    }
+
+    /// A failure of the device that was set is still to come.
+    pub(crate) fn to_come(&self)
+        ensures { IsToCome self.now.device.usage }
+    {
+        self.device.kept();
     }
 
     /// All bytes of the device.

@@ -4,7 +4,7 @@ ghost use Rattle.history.specs.Log.{record_at, answer_of, request_in, step_in};
 ghost use Rattle.history.specs.Legal.{IsLegal, FitsCheckpoint, IsLatest};
 ghost use Rattle.history.specs.Chains.{undo_from};
 ghost use Rattle.stable.specs.Crash.{BeginsWith};
-ghost use Rattle.stable.specs.Usage.{failing_in};
+ghost use Rattle.stable.specs.Usage.{IsToCome, failing_in};
 ghost use Rattle.logical_log.specs.Index.{lacks_answer};
 ghost use Rattle.logical_log.specs.LogView.{last_not_session};
 ghost use Rattle.logical_log.specs.Low.{IsGreatestLow};
@@ -193,6 +193,13 @@ impl<D: LogDevice> Log<D> {
         ensures { IsLatest (FitsCheckpoint self.now.records) result }
     {
         self.frames.answered_from(self.answered)
+    }
+
+    /// What holds at every moment: a failure of the device that was set is still to come.
+    pub fn to_come(&self)
+        ensures { IsToCome self.now.usage }
+    {
+        self.frames.to_come();
     }
 }
 

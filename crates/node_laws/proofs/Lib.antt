@@ -5,3 +5,4 @@ pub mod Stood
 pub mod Settles
 pub mod Halves
 pub mod Recovered
+pub mod Devices

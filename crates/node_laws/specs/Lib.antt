@@ -1,5 +1,6 @@
 pub mod Component
 pub mod Node
+pub mod Failing
 pub mod Messages
 pub mod Source
 pub mod Kept
@@ -12,6 +13,7 @@ pub mod Fallen
 pub mod Promises
 pub mod Halves
 pub mod Forgetting
+pub mod Sound
 -- what a crate above names of those below
 pub use Rattle.dc_core as dc_core
 pub use Rattle.dc_core.specs.system_txn as system_txn

@@ -13,7 +13,7 @@ mod laws;
 mod round;
 
 pub use event::{Event, Out};
-pub use laws::{fallen_law, forgetting_law, promises_law};
+pub use laws::{device_law, fallen_law, forgetting_law, promises_law};
 pub use round::Round;
 
 // What a crate above names of those below.

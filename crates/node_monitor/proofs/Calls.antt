@@ -1,5 +1,5 @@
 -- What a session finds of its latest call.
-use Rattle.std.proofs.Common.{◌≡◌, ◌⊎◌, ℕ, ◌+◌, ◌<◌, zero, suc, Bool, true, false, cond, List, [], ◌∷◌, ◌++◌, Option, Some, None, refl, ap, sym, ◌∙◌, subst, inl, inr, arith}
+use Rattle.std.proofs.Common.{◌≡◌, ◌⊎◌, ℕ, ◌+◌, zero, suc, true, false, List, [], ◌∷◌, ◌++◌, Option, Some, None, refl, ap, sym, ◌∙◌, subst, inl, inr, arith}
 use Rattle.std.specs.Option.{is_some}
 use Rattle.boxcar.specs.Table.{Shelves}
 use Rattle.history.specs.ListMachine.{Line}
@@ -11,13 +11,13 @@ use Rattle.pool_journal.specs.node_laws.specs.declared.event.Out.{Out}
 use Rattle.pool_journal.specs.Callers.{Awaits, HasLine, IsUntold}
 use Rattle.pool_journal.specs.Errands.{FailsSince}
 use Rattle.pool_journal.specs.Kept.{calls_of}
-use Rattle.pool_journal.specs.Sessions.{IsCalled, IsClosed, IsLeft, IsSameCall, Part, SessionCall, awaits, called_as, is_pending, line_of, part_of, pending}
+use Rattle.pool_journal.specs.Sessions.{IsClosed, IsLeft, IsSameCall, SessionCall, awaits, called_as, is_pending, line_of, part_of, pending}
 use Rattle.pool_journal.specs.Views.{Sees}
 use Rattle.node_monitor.specs.declared.heard.Heard.{Heard}
 use Rattle.node_monitor.specs.declared.news.News.{News}
 use Rattle.node_monitor.specs.declared.news.News.TheVariants as news
 use Rattle.node_monitor.specs.declared.place.Place.{Place}
-use Rattle.node_monitor.specs.Callers.{CallsWith, CallerKept, Follows, IsMade, IsNews, IsNewsOf, IsTold, is_busy}
+use Rattle.node_monitor.specs.Callers.{CallsWith, IsMade, IsNews, IsNewsOf, IsTold, is_busy}
 use Rattle.node_monitor.specs.Hearing.{as_line}
 use Rattle.node_monitor.specs.Places.{CameSince, HeardSince, IsAmid, IsResting, PlaceKept}
 use Rattle.node_monitor.specs.Running.{GoesOn, made}

@@ -1,8 +1,7 @@
 -- What lies under the lock of a session, one step on.
-use Rattle.std.proofs.Common.{◌≡◌, ◌⊎◌, ℕ, ◌+◌, zero, suc, ◌==◌, Bool, true, false, cond, List, [], ◌∷◌, ◌++◌, Option, Some, None, refl, ap, sym, ◌∙◌, subst, inl, inr, arith, slice_get, map, set, eqb→eq, eq-eqb}
+use Rattle.std.proofs.Common.{◌≡◌, ◌⊎◌, ℕ, ◌+◌, zero, suc, ◌==◌, Bool, true, false, cond, List, [], ◌∷◌, ◌++◌, Option, Some, None, refl, ap, sym, ◌∙◌, subst, inl, inr, arith, slice_get, map, set, eqb→eq}
 use lib.Dec.{T}
-use Rattle.std.proofs.lemmas.List.{append-nil}
-use Rattle.std.specs.Option.{is_some, option_map}
+use Rattle.std.specs.Option.{option_map}
 use Rattle.boxcar.specs.Table.{Shelves}
 use Rattle.history.specs.ListMachine.{Line}
 use Rattle.pool_journal.specs.declared.failure.Failure.{Failure}
@@ -10,14 +9,14 @@ use Rattle.pool_journal.specs.declared.step.Step.{Step}
 use Rattle.pool_journal.specs.node_laws.specs.declared.event.Event.{Event}
 use Rattle.pool_journal.specs.node_laws.specs.declared.event.Out.{Out}
 use Rattle.pool_journal.specs.node_laws.specs.Halves.{also}
-use Rattle.pool_journal.specs.Errands.{FailsSince, errand_after, errand_of, fails}
+use Rattle.pool_journal.specs.Errands.{FailsSince, errand_after, fails}
 use Rattle.pool_journal.specs.Kept.{calls_of, later_failure}
-use Rattle.pool_journal.specs.Sessions.{Part, SessionCall, awaits, called, called_as, calls_as, cut, cuts_off, ends, heard, hears, is_pending, line_for, line_of, line_to, live_after, no_part, part_of, pending, told, told_of, worked}
+use Rattle.pool_journal.specs.Sessions.{Part, SessionCall, awaits, called, called_as, calls_as, cut, cuts_off, heard, hears, is_pending, line_for, line_of, live_after, no_part, part_of, pending, told, told_of, worked}
 use Rattle.pool_journal.specs.Views.{Sees}
 use Rattle.tie.specs.Tied.{Tied, tied_at}
 use Rattle.node_monitor.specs.declared.heard.Heard.{Heard}
 use Rattle.node_monitor.specs.declared.place.Place.{Place}
-use Rattle.node_monitor.specs.Hearing.{as_line, heard_for, heard_to, is_end}
+use Rattle.node_monitor.specs.Hearing.{as_line, heard_for, heard_to}
 use Rattle.node_monitor.specs.Places.{CameSince, HeardSince, IsAmid, IsResting, PlaceKept, PlacesKept, place_after, place_called, place_heard, place_worked, with_heard}
 use Rattle.node_monitor.specs.Running.{made}
 use Rattle.node_monitor.specs.Slots.{Shown, Slot, seen}

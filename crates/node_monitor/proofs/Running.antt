@@ -1,8 +1,9 @@
 -- A run goes on.
-use Rattle.std.proofs.Common.{◌≡◌, ◌⊎◌, ℕ, Bool, true, false, List, [], ◌∷◌, ◌++◌, Option, Some, None, refl, ap, sym, ◌∙◌, subst, inl, inr, append_assoc}
+use Rattle.std.proofs.Common.{◌≡◌, ℕ, true, false, List, [], ◌∷◌, ◌++◌, Option, Some, None, refl, ap, sym, ◌∙◌, subst, inl, inr, append_assoc}
 use Rattle.std.proofs.lemmas.List.{append-nil}
 use Rattle.std.specs.List.{AllByRecursion}
 use Rattle.record_key.proofs.Lists.{all_appended}
+use Rattle.pool_journal.specs.Commands.{is_command}
 use Rattle.pool_journal.specs.declared.step.Step.{Step}
 use Rattle.pool_journal.specs.node_laws.specs.declared.event.Event.{Event}
 use Rattle.pool_journal.specs.node_laws.specs.declared.event.Out.{Out}
@@ -13,8 +14,7 @@ use Rattle.pool_journal.specs.Kept.{calls_of}
 use Rattle.pool_journal.specs.Sessions.{calls_as}
 use Rattle.pool_journal.specs.Views.{Sees}
 use Rattle.node_monitor.specs.Found.{IsOwned}
-use Rattle.node_monitor.specs.Running.{GoesOn, LetsGo, Passes, has_caller, is_outage, made}
-use Rattle.pool_journal.proofs.Entering.{sees_snoc}
+use Rattle.node_monitor.specs.Running.{GoesOn, LetsGo, Passes, has_caller, made}
 use Rattle.pool_journal.proofs.Lists.{all_snoc}
 
 -- one step more
@@ -75,12 +75,12 @@ sees_then s a b c x y = record {
 
 -- ---- who crashes a component
 
-pub owned_step : (n : ℕ) (es : List Step) (e : Event) (o : Out) → AllByRecursion (IsOwned n) es → is_outage e ≡ false
+pub owned_step : (n : ℕ) (es : List Step) (e : Event) (o : Out) → AllByRecursion (IsOwned n) es → is_command e ≡ false
     → AllByRecursion (IsOwned n) (es ++ made None e o ∷ [])
 owned_step n es e o all plain =
     all_snoc (IsOwned n) es (made None e o) all (λ is. absurd (cc (sym plain ∙ is)))
 
 pub owned_call : (n : ℕ) (es : List Step) (s : ℕ) (e : Event) (o : Out) → AllByRecursion (IsOwned n) es
-    → (is_outage e ≡ true → s ≡ n) → AllByRecursion (IsOwned n) (es ++ made (Some s) e o ∷ [])
+    → (is_command e ≡ true → s ≡ n) → AllByRecursion (IsOwned n) (es ++ made (Some s) e o ∷ [])
 owned_call n es s e o all may =
     all_snoc (IsOwned n) es (made (Some s) e o) all (λ is. ap (λ (m : ℕ). Some m) (may is))

@@ -1,14 +1,13 @@
 -- What an output tells a transaction, and the line that it is.
-use Rattle.std.proofs.Common.{◌≡◌, ℕ, ◌==◌, Bool, true, false, Option, Some, None, refl, ap, sym, ◌∙◌}
+use Rattle.std.proofs.Common.{◌≡◌, ℕ, ◌==◌, Bool, true, false, Some, refl, ap, sym, ◌∙◌}
 use Rattle.std.specs.Option.{option_map}
 use Rattle.history.specs.History.{is_among}
-use Rattle.history.specs.ListMachine.{Line}
 use Rattle.pool_journal.specs.node_laws.specs.declared.event.Out.{Out}
 use Rattle.pool_journal.specs.node_laws.specs.declared.event.Out.TheVariants as out
-use Rattle.pool_journal.specs.Sessions.{ends, line_for, line_to, only_if}
+use Rattle.pool_journal.specs.Sessions.{ends, line_to, only_if}
 use Rattle.node_monitor.specs.declared.heard.Heard.{Heard}
 use Rattle.node_monitor.specs.declared.heard.Heard.TheVariants as heard
-use Rattle.node_monitor.specs.Hearing.{as_line, heard_for, heard_if, heard_to, is_end}
+use Rattle.node_monitor.specs.Hearing.{as_line, heard_if, heard_to, is_end}
 
 if_so : (t : ℕ) (b : Bool) (h : Heard) → option_map (as_line t) (heard_if b h) ≡ only_if b (as_line t h)
 if_so t true h = refl

@@ -4,12 +4,13 @@ use Rattle.record_key.specs.declared.refusal.Refusal.{Refusal}
 use Rattle.record_key.specs.declared.refusal.Refusal.TheVariants.{NoMemory, Device, NumbersSpent}
 use Rattle.std.specs.List.{AllByRecursion}
 use Rattle.boxcar.specs.Table.{Shelves}
+use Rattle.pool_journal.specs.Commands.{is_command}
 use Rattle.pool_journal.specs.declared.step.Step.{Step}
 use Rattle.pool_journal.specs.node_laws.specs.Node.{NodeView}
 use Rattle.pool_journal.specs.Steps.{Start}
 use Rattle.node_monitor.specs.declared.place.Place.{Place}
 use Rattle.node_monitor.specs.Places.{PlacesKept}
-use Rattle.node_monitor.specs.Running.{PassesFrom, is_outage}
+use Rattle.node_monitor.specs.Running.{PassesFrom}
 
 -- the steps, and the node that they leave
 pub record Found : Type 0 where
@@ -18,7 +19,7 @@ pub record Found : Type 0 where
 
 -- whoever crashes a component or arms a failure is this caller
 abbrev pub IsOwned : ℕ → Step → Type 0
-IsOwned owner e = is_outage e.event ≡ true → e.caller ≡ Some owner
+IsOwned owner e = is_command e.event ≡ true → e.caller ≡ Some owner
 
 -- the steps lead from the start to the node, and each session has its place; the last place is the engine's own, and it
 -- alone crashes anything or arms a failure

@@ -4,6 +4,9 @@ pub mod Hearing
 pub mod Places
 pub mod Callers
 pub mod Found
+pub mod Quiet
+pub mod Commanded
+pub mod Closing
 -- what a crate above names of those below
 pub use Rattle.pool_journal.specs.node_laws as node_laws
 pub use Rattle.pool_journal as pool_journal

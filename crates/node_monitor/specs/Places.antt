@@ -13,7 +13,7 @@ use Rattle.pool_journal.specs.Views.{Sees}
 use Rattle.node_monitor.specs.declared.heard.Heard.{Heard}
 use Rattle.node_monitor.specs.declared.place.Place.{Place}
 use Rattle.node_monitor.specs.Hearing.{as_line, heard_for, is_end}
-use Rattle.node_monitor.specs.Slots.{Slot, Shown, seen}
+use Rattle.node_monitor.specs.Slots.{Shown, seen}
 
 -- ---- what a step is to a place
 

@@ -1,9 +1,8 @@
 -- Steps as a run of the node.
-use Rattle.std.specs.Prelude.{◌≡◌, ◌⊎◌, ℕ, Bool, true, false, List, [], ◌∷◌, Option, Some, None}
+use Rattle.std.specs.Prelude.{◌≡◌, ◌⊎◌, ℕ, Bool, List, [], ◌∷◌, Option, None}
 use Rattle.std.specs.Option.{is_some}
 use Rattle.pool_journal.specs.declared.step.Step.{Step}
 use Rattle.pool_journal.specs.node_laws.specs.declared.event.Event.{Event}
-use Rattle.pool_journal.specs.node_laws.specs.declared.event.Event.TheVariants as event
 use Rattle.pool_journal.specs.node_laws.specs.declared.event.Out.{Out}
 use Rattle.pool_journal.specs.node_laws.specs.Forgetting.{without_messages}
 use Rattle.pool_journal.specs.node_laws.specs.Node.{NodeView}
@@ -35,11 +34,3 @@ has_caller e = is_some e.caller
 -- steps were added, none of them a call
 abbrev pub GoesOn : List Step → List Step → Type 0
 GoesOn old new = Sees has_caller old new
-
--- a crash, or a failure that is armed
-abbrev pub is_outage : Event → Bool
-is_outage (event.CrashTc frames bytes) = true
-is_outage (event.CrashDc frames bytes) = true
-is_outage (event.FailTc call) = true
-is_outage (event.FailDc device call) = true
-is_outage _ = false

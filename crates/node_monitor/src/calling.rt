@@ -1,5 +1,6 @@
 //! A session's call, under one hold of the lock.
 ghost use Rattle.std.specs.Prelude.{◌≡◌, ℕ, ◌++◌, ◌∷◌, [], false, Some, None, IfSome, IfNone};
+ghost use Rattle.pool_journal.specs.Commands.{is_command};
 ghost use Rattle.pool_journal.specs.node_laws.specs.declared.event.Event.TheVariants as event;
 ghost use Rattle.pool_journal.specs.Kept.{calls_of};
 ghost use Rattle.pool_journal.specs.Sessions.{IsClosed, is_pending, line_of, part_of};
@@ -7,7 +8,7 @@ ghost use Rattle.pool_journal.specs.Views.{Sees};
 ghost use Rattle.session_answers.specs.Answers.{IsSecond, IsUnasked};
 ghost use Rattle.session_answers.specs.Asking.{event_of};
 ghost use Rattle.node_monitor.specs.Callers.{CallsWith, IsNews};
-ghost use Rattle.node_monitor.specs.Running.{is_outage, made};
+ghost use Rattle.node_monitor.specs.Running.{GoesOn, made};
 
 use crate::caller::Caller;
 use crate::entry::Entry;
@@ -29,6 +30,15 @@ pub struct Outs {
 }
 
 impl<J: Naming, D: CrashLog, P: CrashPages> Guarded<J, D, P> {
+    // Carries a session's latest call on, as far as the node lets it, and then eases the node.
+    fn go_on<R: Wait>(&mut self, rt: &R, caller: &Caller<J>, txn: u64, kind: Kind, out: &mut Out)
+        ensures on { GoesOn self.old.steps self.new.steps }
+        ensures done { kind ≡ Kind.Done → self.new.steps ≡ self.old.steps }
+    {
+        self.carry_on(rt, caller, txn, kind, out);
+        self.ease(rt, caller, kind);
+    }
+
     // A call of a session that has seen all of its calls, as far as the node lets it come.
     fn make<R: Wait>(
         &mut self,
@@ -40,7 +50,7 @@ impl<J: Naming, D: CrashLog, P: CrashPages> Guarded<J, D, P> {
         outs: &mut Outs,
     ) -> News
         requires row { row.now ≡ J.entries }
-        requires plain { is_outage event.now ≡ false }
+        requires plain { is_command event.now ≡ false }
         requires sees { Sees (calls_of caller.old.number) caller.old.steps self.old.steps }
         requires closed { IsClosed (part_of caller.old.number caller.old.steps) }
         ensures caller { caller.new ≡ record { number = caller.old.number; steps = self.new.steps; busy = false } }
@@ -51,7 +61,7 @@ impl<J: Naming, D: CrashLog, P: CrashPages> Guarded<J, D, P> {
     {
         let Outs { call, line } = outs;
         self.call(rt, caller, event, call);
-        self.carry_on(rt, caller, txn, Kind::of(call), line);
+        self.go_on(rt, caller, txn, Kind::of(call), line);
         self.finish(rt, row, caller)
     }
 
@@ -133,7 +143,7 @@ impl<J: Naming, D: CrashLog, P: CrashPages> Guarded<J, D, P> {
     {
         self.see(row, caller);
         if !self.has_news(caller) {
-            self.carry_on(rt, caller, txn, kind, &mut outs.line);
+            self.go_on(rt, caller, txn, kind, &mut outs.line);
         }
         self.finish(rt, row, caller)
     }

@@ -1,8 +1,8 @@
 //! What lies under the lock.
-ghost use Rattle.std.specs.Prelude.{◌≡◌, ◌<◌, ◌+◌, ◌++◌, ◌∷◌, List, [], true, false, None, Some, map, length, vec_len};
+ghost use Rattle.std.specs.Prelude.{◌≡◌, ◌<◌, ◌+◌, ◌++◌, ◌∷◌, List, [], true, false, None, Some, map, length, vec_len, IfErr, IfOk, OnErr, OnOk};
+ghost use Rattle.pool_journal.specs.Commands.{is_command};
 ghost use Rattle.pool_journal.specs.declared.step.Step.{Step};
 ghost use Rattle.std.specs.List.{AllByRecursion};
-ghost use Rattle.pool_journal.specs.node_laws.specs.Forgetting.{without_messages};
 ghost use Rattle.pool_journal.specs.node_laws.specs.Stepping.{IsStep};
 ghost use Rattle.pool_journal.specs.Kept.{calls_of};
 ghost use Rattle.pool_journal.specs.Sessions.{line_of, part_of};
@@ -12,18 +12,20 @@ ghost use Rattle.node_monitor.specs.Callers.{IsMade, IsNews, IsNewsOf, is_busy};
 ghost use Rattle.node_monitor.specs.Slots.{Shown, seen};
 ghost use Rattle.node_monitor.specs.Found.{IsOwned};
 ghost use Rattle.node_monitor.specs.Places.{PlacesKept, place_after};
-ghost use Rattle.node_monitor.specs.Running.{PassesFrom, made, is_outage};
+ghost use Rattle.node_monitor.specs.Running.{PassesFrom, made};
 
 use crate::caller::Caller;
 use crate::entry::Entry;
 use crate::news::News;
 use crate::noting::{again, with_call, with_step};
+use crate::pace::Pace;
 use crate::place::Place;
 use crate::row::pushed;
 use boxcar::{Pushed, Vec as Row};
 use ghost_list::GhostList;
 use pool_journal::node_laws::{Event, Out};
 use pool_journal::{Naming, Step};
+use record_key::Refusal;
 use stable::{CrashLog, CrashPages};
 use std::marker::{Model, PhantomData};
 use std::sync::Wait;
@@ -33,10 +35,11 @@ use world::World;
 /// the node.
 #[derive(Drop)]
 pub struct Guarded<J: Naming, D: CrashLog, P: CrashPages> {
-    world: Box<World<D, P>>,
-    steps: GhostList<Step>,
-    places: Vec<Place>,
-    of: PhantomData<J>,
+    pub(crate) world: Box<World<D, P>>,
+    pub(crate) steps: GhostList<Step>,
+    pub(crate) places: Vec<Place>,
+    pub(crate) pace: Pace,
+    pub(crate) of: PhantomData<J>,
 }
 
 impl<J: Naming, D: CrashLog, P: CrashPages> Model for Guarded<J, D, P> {
@@ -106,6 +109,7 @@ impl<J: Naming, D: CrashLog, P: CrashPages> Guarded<J, D, P> {
             world,
             steps: GhostList::new(),
             places,
+            pace: Pace::new(),
             of: PhantomData,
         }
     }
@@ -125,9 +129,19 @@ impl<J: Naming, D: CrashLog, P: CrashPages> Guarded<J, D, P> {
         &self.world
     }
 
+    /// How much of the log is stable. Refused NotConnected where the transaction component is down.
+    pub fn stable_end(&self) -> Result<u64, Refusal>
+        ensures end { IfOk result (λ end. end ≡ self.now.node.tc.stable) }
+        ensures up { OnOk result (self.now.node.tc_up ≡ true) }
+        ensures refused { IfErr result (λ refusal. refusal ≡ Refusal.NotConnected) }
+        ensures down { OnErr result (self.now.node.tc_up ≡ false) }
+    {
+        self.world.stable_end()
+    }
+
     /// A step that is nobody's call.
     pub fn step<R: Wait>(&mut self, rt: &R, event: &Event, out: &mut Out)
-        requires plain { is_outage event.now ≡ false }
+        requires plain { is_command event.now ≡ false }
         ensures steps { self.new.steps ≡ self.old.steps ++ made None event.now out.new ∷ [] }
         ensures node { IsStep self.old.node event.now out.new self.new.node }
     {
@@ -135,6 +149,7 @@ impl<J: Naming, D: CrashLog, P: CrashPages> Guarded<J, D, P> {
             world,
             steps,
             places,
+            pace: _,
             of: _,
         } = self;
         world.step_into(event, out);
@@ -142,18 +157,9 @@ impl<J: Naming, D: CrashLog, P: CrashPages> Guarded<J, D, P> {
         hear_all(rt, places, None, event, out);
     }
 
-    /// Every message is let go.
-    pub fn forget(&mut self)
-        ensures steps { self.new.steps ≡ self.old.steps }
-        ensures node { self.new.node ≡ without_messages self.old.node }
-    {
-        let Guarded { world, .. } = self;
-        world.forget();
-    }
-
     /// A session's call, which it hasn't seen to its end then.
     pub fn call<R: Wait>(&mut self, rt: &R, caller: &mut Caller<J>, event: &Event, out: &mut Out)
-        requires owned { is_outage event.now ≡ true → caller.old.number ≡ J.sessions }
+        requires owned { is_command event.now ≡ true → caller.old.number ≡ J.sessions }
         ensures steps { self.new.steps ≡ self.old.steps ++ made (Some caller.old.number) event.now out.new ∷ [] }
         ensures node { IsStep self.old.node event.now out.new self.new.node }
         ensures caller { caller.new ≡ record { number = caller.old.number; steps = caller.old.steps; busy = true } }
@@ -162,6 +168,7 @@ impl<J: Naming, D: CrashLog, P: CrashPages> Guarded<J, D, P> {
             world,
             steps,
             places,
+            pace: _,
             of: _,
         } = self;
         let Caller {
@@ -189,6 +196,7 @@ impl<J: Naming, D: CrashLog, P: CrashPages> Guarded<J, D, P> {
             world: _,
             steps: _,
             places,
+            pace: _,
             of: _,
         } = self;
         let Caller {
@@ -216,6 +224,7 @@ impl<J: Naming, D: CrashLog, P: CrashPages> Guarded<J, D, P> {
             world: _,
             steps,
             places,
+            pace: _,
             of: _,
         } = self;
         let Caller {
@@ -246,6 +255,11 @@ impl<J: Naming, D: CrashLog, P: CrashPages> Guarded<J, D, P> {
         ensures { result ≡ (part_of caller.now.number self.now.steps).live }
     {
         self.places[caller.number as usize].live
+    }
+
+    /// Whether something was told of a session's latest call that it hasn't seen.
+    pub(crate) fn was_told(&self, caller: &Caller<J>) -> bool {
+        self.places[caller.number as usize].line.is_some()
     }
 
     /// Whether a session has something to see: its call was told of or cut off, or a step of it failed.

@@ -8,18 +8,23 @@
 
 mod caller;
 mod calling;
+mod closed;
+mod commands;
+mod easing;
 mod entry;
 mod guarded;
 mod heard;
 mod hearing;
 mod news;
 mod noting;
+mod pace;
 mod place;
 mod rounds;
 mod row;
 
 pub use caller::Caller;
 pub use calling::Outs;
+pub use closed::Closed;
 pub use entry::Entry;
 pub use guarded::Guarded;
 pub use heard::Heard;

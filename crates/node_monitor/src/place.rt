@@ -2,6 +2,7 @@
 ghost use Rattle.std.specs.Prelude.{◌≡◌, ◌+◌, [], Some};
 ghost use Rattle.pool_journal.specs.Sessions.{calls_as};
 ghost use Rattle.node_monitor.specs.Places.{PlaceKept, place_after, place_called, place_heard, place_worked, with_heard};
+ghost use Rattle.node_monitor.specs.Quiet.{waits};
 ghost use Rattle.node_monitor.specs.Running.{made};
 ghost use Rattle.node_monitor.specs.Slots.{Shown};
 
@@ -120,6 +121,16 @@ impl Place {
         }
         self.work(txn, event, out);
         self.tell(heard_to(rt, txn, out));
+    }
+
+    /// Whether a message is on its way for its session's latest call.
+    pub(crate) fn waits(&self) -> bool
+        ensures { result ≡ waits self.now }
+    {
+        if self.live.is_none() || !self.awaits {
+            return false;
+        }
+        self.errand.request.is_some() || self.errand.reply.is_some()
     }
 
     /// A step.

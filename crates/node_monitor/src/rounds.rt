@@ -1,9 +1,10 @@
 //! The steps that carry a session's call on, and bring the components up.
 ghost use Rattle.std.specs.Prelude.{◌≡◌, false, IfErr, OnOk};
+ghost use Rattle.pool_journal.specs.Commands.{is_command};
 ghost use Rattle.pool_journal.specs.Sessions.{is_pending};
 ghost use Rattle.pool_journal.specs.node_laws.specs.Rounds.{AreRunning};
 ghost use Rattle.node_monitor.specs.Found.{IsOutage};
-ghost use Rattle.node_monitor.specs.Running.{GoesOn, is_outage};
+ghost use Rattle.node_monitor.specs.Running.{GoesOn};
 
 use crate::caller::Caller;
 use crate::guarded::Guarded;
@@ -52,7 +53,7 @@ fn sent(out: &Out) -> Option<u64> {
 impl<J: Naming, D: CrashLog, P: CrashPages> Guarded<J, D, P> {
     /// An event that sends a request, the request's delivery, and that of its reply. Whether a reply was taken.
     pub fn exchange<R: Wait>(&mut self, rt: &R, event: &Event, out: &mut Out) -> bool
-        requires plain { is_outage event.now ≡ false }
+        requires plain { is_command event.now ≡ false }
         ensures on { GoesOn self.old.steps self.new.steps }
     {
         self.step(rt, event, out);
@@ -65,7 +66,7 @@ impl<J: Naming, D: CrashLog, P: CrashPages> Guarded<J, D, P> {
         };
         let number = *number;
         self.step(rt, &Event::Reply { number }, out);
-        !matches!(out, Out::Refused(_))
+        self.took(out)
     }
 
     // One compensation of a rollback, with its answer: whether the session has no news yet, and it was answered.
@@ -114,7 +115,7 @@ impl<J: Naming, D: CrashLog, P: CrashPages> Guarded<J, D, P> {
 
     // An event that may be refused for want of memory or numbers, and where a device fails.
     fn pass<R: Wait>(&mut self, rt: &R, event: &Event, out: &mut Out) -> Result<(), Refusal>
-        requires plain { is_outage event.now ≡ false }
+        requires plain { is_command event.now ≡ false }
         ensures on { GoesOn self.old.steps self.new.steps }
         ensures refused { IfErr result IsOutage }
     {
@@ -123,9 +124,9 @@ impl<J: Naming, D: CrashLog, P: CrashPages> Guarded<J, D, P> {
     }
 
     // The same of one that sends a request, which is answered. A leaf that redo has filled is split, and every message let
-    // go.
+    // go, unless a session waits for one.
     fn recover<R: Wait>(&mut self, rt: &R, event: &Event, out: &mut Out) -> Result<(), Refusal>
-        requires plain { is_outage event.now ≡ false }
+        requires plain { is_command event.now ≡ false }
         ensures on { GoesOn self.old.steps self.new.steps }
         ensures refused { IfErr result IsOutage }
     {
@@ -166,6 +167,7 @@ impl<J: Naming, D: CrashLog, P: CrashPages> Guarded<J, D, P> {
     {
         for _ in rt.forever() {
             if !self.round(rt, out)? {
+                self.begin_pace();
                 return Ok(());
             }
         }

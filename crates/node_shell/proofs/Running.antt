@@ -4,8 +4,8 @@ use Rattle.std.specs.Prelude.{◌&&◌}
 use Rattle.std.specs.Io.KnownBytes.{Appends}
 use Rattle.record_key.specs.declared.refusal.Refusal.{Refusal}
 use Rattle.record_key.specs.declared.refusal.Refusal.TheVariants as refusal
-use Rattle.world.specs.node_laws.specs.Kept.{IsKept}
 use Rattle.world.specs.node_laws.specs.Node.{NodeView, fresh_node}
+use Rattle.world.specs.node_laws.specs.Standing.{IsNode}
 use Rattle.node_shell.specs.declared.line_result.LineResult.{LineResult}
 use Rattle.node_shell.specs.Labels.{AreSameBindings, Bindings, unbound}
 use Rattle.node_shell.specs.Script.{Command, onto, first_fault, commands_of, lines_from}
@@ -157,7 +157,7 @@ unread continues view labels given old new r status (inr e) h =
 
 -- a script without a fault that was run
 pub ran : (continues : Bool) (view : NodeView) (labels : Bindings) (given old new : Option (List ℕ)) (script : List ℕ)
-    (status : ℕ) → IsKept view → IsAllOf given script → first_fault script ≡ None
+    (status : ℕ) → IsNode view → IsAllOf given script → first_fault script ≡ None
     → WritesRun continues (commands_of (lines_from script)) view labels old new status
     → WritesTextFrom continues view labels given old new status
 ran continues view labels given old new script status k all ok h =

@@ -10,6 +10,7 @@ use Rattle.world.specs.node_laws.specs.declared.event.Out.TheVariants as out
 use Rattle.world.specs.node_laws.specs.Node.{NodeView, StepsTo, fresh_node}
 use Rattle.world.specs.node_laws.specs.Kept.{IsKept}
 use Rattle.world.specs.node_laws.specs.Simulation.{NodeStandsFor, StepsIf}
+use Rattle.world.specs.node_laws.specs.Standing.{IsNode}
 use Rattle.world.specs.node_laws.specs.Simulation as sim
 use Rattle.world.specs.node_laws.specs.Stepping.{IsStep, TellsOn, told_by_all}
 use Rattle.world.specs.node_laws.specs.declared.round.Round.{Round}
@@ -23,7 +24,7 @@ use Rattle.node_shell.specs.declared.line_result.LineResult.TheVariants as came
 use Rattle.row_ranges.specs.Beginnings.{beginning_end}
 use Rattle.node_shell.specs.Labels.{Bindings}
 use Rattle.node_shell.specs.Script.{Command, begins, writes, adds, gets, scans, prefixes, calls, treats, steps, settles, tables, forgets, shows}
-use Rattle.node_shell.specs.Text.{ComesTo, StepsUnless, Runs, goes_on, fails, is_cut, done, lines_if, lines_unless, client_lines, run_lines, op_written, length_fault, keys_fault, event_called, leaf_event, IsPlainTable, IsSettledBy, HasPlainTables, IsLedRun, IsToldRun}
+use Rattle.node_shell.specs.Text.{Does, StepsUnless, Runs, goes_on, fails, is_cut, done, lines_if, lines_unless, client_lines, run_lines, op_written, length_fault, keys_fault, event_called, leaf_event, IsPlainTable, IsSettledBy, HasPlainTables, IsLedRun, IsToldRun}
 
 -- whatever machine the node stood for, these lines lead from it to one that the node stands for then; and what holds of
 -- a node at every moment goes on to hold
@@ -110,7 +111,7 @@ settles_leads most old new outs result h =
 
 -- a line
 line_leads : (c : Command) (old : NodeView) (labels : Bindings) (r : LineResult) (new : NodeView) (next : Bindings)
-    → ComesTo c old labels r new next → LeadsBy old (client_lines c labels r) new
+    → Does c old labels r new next → LeadsBy old (client_lines c labels r) new
 line_leads (begins label) old labels (came.Event o) new next h = step_leads old new event.Begin o h.0
 line_leads (begins label) old labels _ new next h = absurd h
 line_leads (writes label k key value) old labels (came.Event o) new next h =
@@ -152,27 +153,27 @@ run_leads : (continues : Bool) (cs : List Command) (view : NodeView) (labels : B
     → (n : Machine) × Steps m (run_lines continues cs view labels text status run) n
 run_leads _ _ _ _ _ _ (done view labels) m stands = (m, refl)
 run_leads continues _ _ _ _ _ (goes_on c cs view labels r after next text status comes on rest) m stands =
-    let one = (line_leads c view labels r after next comes).1 m stands in
+    let one = (line_leads c view labels r after next comes.does).1 m stands in
     let more = run_leads continues cs after next text status rest one.0 one.2 in (
       more.0,
       steps_then m (client_lines c labels r) (run_lines continues cs after next text status rest) one.0 more.0 one.1
           more.1,
     )
 run_leads _ _ _ _ _ _ (fails c cs view labels r after next comes failed over) m stands =
-    let one = (line_leads c view labels r after next comes).1 m stands in (one.0, one.1)
+    let one = (line_leads c view labels r after next comes.does).1 m stands in (one.0, one.1)
 run_leads _ _ _ _ _ _ (is_cut c cs view labels r after next text comes cut) m stands =
-    let one = (line_leads c view labels r after next comes).1 m stands in (one.0, one.1)
+    let one = (line_leads c view labels r after next comes.does).1 m stands in (one.0, one.1)
 
 -- what a table shows of a settled node, and where one is told to be settled
 plain_table : (c : Command) (view : NodeView) (labels : Bindings) (r : LineResult) (after : NodeView) (next : Bindings)
-    (m : Machine) → ComesTo c view labels r after next → IsKept view → NodeStandsFor view m → IsPlainTable c r view m
+    (m : Machine) → Does c view labels r after next → IsKept view → NodeStandsFor view m → IsPlainTable c r view m
 plain_table tables view labels (came.Table rows) after next m h k stands = λ settled.
     h.0.1 ∙ ap entries (settled_rows view m k stands settled)
 plain_table tables view labels _ after next m h k stands = tt
 plain_table _ view labels r after next m h k stands = tt
 
 settled_by : (c : Command) (view : NodeView) (labels : Bindings) (r : LineResult) (after : NodeView) (next : Bindings)
-    → ComesTo c view labels r after next → IsSettledBy c r after
+    → Does c view labels r after next → IsSettledBy c r after
 settled_by (settles most) view labels (came.Settled outs (Ok true)) after next h = h.0.3.settled
 settled_by (settles most) view labels _ after next h = tt
 settled_by _ view labels r after next h = tt
@@ -182,23 +183,24 @@ plain_tables : (continues : Bool) (cs : List Command) (view : NodeView) (labels 
     → HasPlainTables continues cs view labels text status run m
 plain_tables _ _ _ _ _ _ (done view labels) m k stands = tt
 plain_tables continues _ _ _ _ _ (goes_on c cs view labels r after next text status comes on rest) m k stands =
-    let led = line_leads c view labels r after next comes in
+    let led = line_leads c view labels r after next comes.does in
     let one = led.1 m stands in (
-      plain_table c view labels r after next m comes k stands,
-      settled_by c view labels r after next comes,
+      plain_table c view labels r after next m comes.does k stands,
+      settled_by c view labels r after next comes.does,
       (one.0, one.1, plain_tables continues cs after next text status rest one.0 (led.0 k) one.2),
     )
 plain_tables _ _ _ _ _ _ (fails c cs view labels r after next comes failed over) m k stands =
-    plain_table c view labels r after next m comes k stands
+    plain_table c view labels r after next m comes.does k stands
 plain_tables _ _ _ _ _ _ (is_cut c cs view labels r after next text comes cut) m k stands =
-    plain_table c view labels r after next m comes k stands
+    plain_table c view labels r after next m comes.does k stands
 
 pub led_run : (continues : Bool) (cs : List Command) (view : NodeView) (labels : Bindings) (text : List ℕ) (status : ℕ)
-    → IsKept view → Runs continues cs view labels text status → IsLedRun continues cs view labels text status
+    → IsNode view → Runs continues cs view labels text status → IsLedRun continues cs view labels text status
 led_run continues cs view labels text status k runs = record {
   runs = runs;
+  stood = k.stood;
   leads = λ m stands. run_leads continues cs view labels text status runs m stands;
-  plain = λ m stands. plain_tables continues cs view labels text status runs m k stands;
+  plain = λ m stands. plain_tables continues cs view labels text status runs m k.kept stands;
 }
 
 -- a new node stands for the empty list machine

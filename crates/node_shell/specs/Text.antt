@@ -9,6 +9,7 @@ use Rattle.record_key.specs.declared.op.Op.TheVariants as op
 use Rattle.std.specs.FinMap.{entries}
 use Rattle.history.specs.History.{plain}
 use Rattle.history.specs.ListMachine.{Machine, Line, Steps, IsRun, fresh}
+use Rattle.world.specs.node_laws.specs.Failing.{AreToCome}
 use Rattle.world.specs.node_laws.specs.declared.event.Event.{Event}
 use Rattle.world.specs.node_laws.specs.declared.event.Event.TheVariants as event
 use Rattle.world.specs.node_laws.specs.declared.event.Out.{Out}
@@ -16,6 +17,7 @@ use Rattle.world.specs.node_laws.specs.declared.event.Out.TheVariants as out
 use Rattle.world.specs.node_laws.specs.Node.{NodeView, fresh_node}
 use Rattle.world.specs.node_laws.specs.Stepping.{IsStep, told_by_all}
 use Rattle.world.specs.node_laws.specs.Simulation.{NodeStandsFor, IsSettled}
+use Rattle.world.specs.node_laws.specs.Standing.{StandsForSome}
 use Rattle.world.specs.node_laws.specs.Simulation as sim
 use Rattle.world.specs.node_laws.specs.Forgetting.{without_messages}
 use Rattle.world.specs.node_laws.specs.Rounds.{Settles}
@@ -139,28 +141,35 @@ IsTableShown view (came.Table rows) = (view.dc_up ≡ true) × (rows ≡ rows_sh
 IsTableShown view (came.Event output) = output ≡ out.Refused (if view.dc_up then refusal.NoMemory else refusal.NotConnected)
 IsTableShown view _ = ⊥
 
--- what a line may come to, from a node and labels, and what it leaves
-abbrev pub ComesTo : Command → NodeView → Bindings → LineResult → NodeView → Bindings → Type 0
-ComesTo (begins label) before old r after new = IsEvent (λ output. Begins label before old output after new) r
-ComesTo (writes label k key value) before old r after new =
+-- what a line may do, from a node and labels, and what it leaves
+abbrev pub Does : Command → NodeView → Bindings → LineResult → NodeView → Bindings → Type 0
+Does (begins label) before old r after new = IsEvent (λ output. Begins label before old output after new) r
+Does (writes label k key value) before old r after new =
     IsEvent (λ output. Writes label k key value before old output after) r × AreSameBindings old new
-ComesTo (adds label key amount) before old r after new =
+Does (adds label key amount) before old r after new =
     IsEvent (λ output. AddsAmount label key amount before old output after) r × AreSameBindings old new
-ComesTo (gets label key) before old r after new =
+Does (gets label key) before old r after new =
     IsEvent (λ output. Gets label key before old output after) r × AreSameBindings old new
-ComesTo (scans label low high k) before old r after new =
+Does (scans label low high k) before old r after new =
     IsEvent (λ output. Scans label low high before old output after × Notes output (old.number label) k old new) r
-ComesTo (prefixes label text k) before old r after new =
+Does (prefixes label text k) before old r after new =
     IsEvent (λ output. Prefixes label text before old output after × Notes output (old.number label) k old new) r
-ComesTo (calls label c) before old r after new =
+Does (calls label c) before old r after new =
     IsEvent (λ output. IsStep before (event_called c (old.number label)) output after) r × AreSameBindings old new
-ComesTo (treats c key) before old r after new = IsEvent (λ output. Treats c key before output after) r × AreSameBindings old new
-ComesTo (steps e) before old r after new = IsEvent (λ output. IsStep before e output after) r × AreSameBindings old new
-ComesTo (settles most) before old r after new = IsSettling most before r after × AreSameBindings old new
-ComesTo tables before old r after new = IsTableShown before r × (after ≡ before) × AreSameBindings old new
-ComesTo forgets before old r after new =
+Does (treats c key) before old r after new = IsEvent (λ output. Treats c key before output after) r × AreSameBindings old new
+Does (steps e) before old r after new = IsEvent (λ output. IsStep before e output after) r × AreSameBindings old new
+Does (settles most) before old r after new = IsSettling most before r after × AreSameBindings old new
+Does tables before old r after new = IsTableShown before r × (after ≡ before) × AreSameBindings old new
+Does forgets before old r after new =
     (r ≡ came.Forgotten) × (after ≡ without_messages before) × AreSameBindings old new
-ComesTo (shows p) before old r after new = (r ≡ came.Shown p) × (after ≡ before) × AreSameBindings old new
+Does (shows p) before old r after new = (r ≡ came.Shown p) × (after ≡ before) × AreSameBindings old new
+
+-- what a line comes to; a failure that was set is still to come then, so that no call of a device that was due has
+-- succeeded
+pub record ComesTo (command : Command) (before : NodeView) (old : Bindings) (r : LineResult) (after : NodeView)
+    (new : Bindings) : Type 0 where
+  pub does : Does command before old r after new
+  pub to_come : AreToCome after
 
 -- the client's call and the told lines of an event with its output; none, where the call never reached the node
 abbrev pub lines_if : Option (List Line) → List Line
@@ -324,10 +333,12 @@ pub record IsToldRun (continues : Bool) (commands : List Command) (view : NodeVi
   pub is_run : IsRun (run_lines continues commands view labels text status runs)
   pub plain : HasPlainTables continues commands view labels text status runs fresh
 
--- whatever list machine the node stands for, the calls and the told lines of these lines lead from it to another
+-- whatever list machine the node stands for, and there is one, the calls and the told lines of these lines lead from it
+-- to another
 pub record IsLedRun (continues : Bool) (commands : List Command) (view : NodeView) (labels : Bindings)
     (text : List ℕ) (status : ℕ) : Type 0 where
   pub runs : Runs continues commands view labels text status
+  pub stood : StandsForSome view
   pub leads : (m : Machine) → NodeStandsFor view m
       → (n : Machine) × Steps m (run_lines continues commands view labels text status runs) n
   pub plain : (m : Machine) → NodeStandsFor view m → HasPlainTables continues commands view labels text status runs m

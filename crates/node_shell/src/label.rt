@@ -1,5 +1,5 @@
 //! Labels of transactions, the numbers that they stand for, and how the rows are told that those ask for.
-ghost use Rattle.std.specs.Prelude.{◌≡◌, ◌||◌, ℕ, List, Some, refl, OnOk, IsSome};
+ghost use Rattle.std.specs.Prelude.{◌≡◌, ◌||◌, ℕ, List, Some, None, refl, OnOk, IsSome};
 ghost use Rattle.std.specs.Ordering.{nat_cmp};
 ghost use Rattle.std.specs.Cmp.Lexicographic.{slice_cmp, nat_list_cmp_total, texts_po, texts_ties};
 ghost use Rattle.std.specs.List.{list_all};
@@ -144,6 +144,24 @@ impl Labels {
     {
         // A key that is there takes no memory.
         let _ = self.numbers.insert(label.copied(), number);
+    }
+
+    /// The same of one for which there may be no room: it is left as it is then.
+    pub fn rebind(&mut self, label: &Label, number: u64)
+        ensures bound { IsSome (get (slice_cmp nat_cmp) self.old.numbers label.now)
+            → IsBound (bindings self.old) (bindings self.new) label.now number }
+        ensures same { get (slice_cmp nat_cmp) self.old.numbers label.now ≡ None → self.new ≡ self.old }
+    {
+        if self.numbers.contains_key(label) {
+            self.bind(label, number);
+        }
+    }
+
+    /// How rows are told.
+    pub fn looks(&self) -> &Looks
+        ensures { result.now ≡ self.now.looks }
+    {
+        &self.looks
     }
 
     /// The transaction has asked for rows, which are to be told so.

@@ -76,7 +76,10 @@ fn run_in<D: CrashLog, P: CrashPages, R: io::Read, W: io::Write>(
     }
     match first_fault(script.as_slice()) {
         Some(line) => refuse(writer, Refusal::BadScript(line), FAULT),
-        None => run_from(shell, continues, script.as_slice(), writer),
+        None => {
+            shell.world.stood();
+            run_from(shell, continues, script.as_slice(), writer)
+        }
     }
 }
 

@@ -11,7 +11,7 @@ ghost use Rattle.world.specs.node_laws.specs.Node.{fresh_node, if_up};
 ghost use Rattle.world.specs.node_laws.specs.Stepping.{IsStep};
 ghost use Rattle.node_shell.specs.Labels.{bindings, unbound, AreSameBindings};
 ghost use Rattle.node_shell.specs.Script.{meaning, written_bytes};
-ghost use Rattle.node_shell.specs.Text.{ComesTo, Begins, Writes, AddsAmount, Gets, Scans, Prefixes, Notes, Treats, IsTableShown, IsSettling, event_called, leaf_event, op_written, length_fault, keys_fault};
+ghost use Rattle.node_shell.specs.Text.{ComesTo, Does, Begins, Writes, AddsAmount, Gets, Scans, Prefixes, Notes, Treats, IsTableShown, IsSettling, event_called, leaf_event, op_written, length_fault, keys_fault};
 
 use crate::label::{Label, Labels};
 use crate::line::{Call, Kind, LeafCall, Line, Look, Written};
@@ -65,6 +65,15 @@ impl<D: CrashLog, P: CrashPages> Shell<D, P> {
     /// Runs the line.
     pub fn perform(&mut self, line: &Line<'_>) -> LineResult
         ensures { ComesTo (meaning line.now) self.old.world (bindings self.old.labels) result self.new.world
+            (bindings self.new.labels) }
+    {
+        let result = self.come_to(line);
+        self.world.to_come();
+        result
+    }
+
+    fn come_to(&mut self, line: &Line<'_>) -> LineResult
+        ensures { Does (meaning line.now) self.old.world (bindings self.old.labels) result self.new.world
             (bindings self.new.labels) }
     {
         match line {
@@ -240,7 +249,7 @@ impl<D: CrashLog, P: CrashPages> Shell<D, P> {
 }
 
 /// The operation, unless the key or the value has a length that no node takes.
-fn op_of(kind: Kind, key: &[u8], value: &[u8]) -> Result<Op, Refusal>
+pub fn op_of(kind: Kind, key: &[u8], value: &[u8]) -> Result<Op, Refusal>
     ensures { MatchResult result (λ op. (length_fault key.now value.now ≡ None) × (op ≡ op_written kind key.now value.now))
         (λ refusal. length_fault key.now value.now ≡ Some refusal) }
 {
@@ -296,7 +305,7 @@ fn leaf_event(call: LeafCall, key: &[u8]) -> Result<Event, Refusal>
 }
 
 /// What is to happen to the transaction of this number.
-fn event_called(call: Call, txn: u64) -> Event
+pub fn event_called(call: Call, txn: u64) -> Event
     ensures { result ≡ event_called call txn }
 {
     match call {

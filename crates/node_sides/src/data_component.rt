@@ -1,4 +1,5 @@
 //! The data component, which runs or is down.
+ghost use Rattle.stable.specs.Usage.{IsToCome};
 ghost use Rattle.node_laws.specs.dc_core.specs.Kept.{IsDc};
 ghost use Rattle.node_laws.specs.system_txn.specs.Kept.{IsRecoverable};
 ghost use Rattle.node_laws.specs.Component.{DcCrashesTo, DcRestartsTo};
@@ -23,6 +24,17 @@ impl<D: CrashLog, P: CrashPages> DataComponent<D, P> {
         match self {
             DataComponent::Up(dc) => dc.kept(),
             DataComponent::Down(stopped) => stopped.kept(),
+        }
+    }
+
+    /// What holds at every moment: a failure of a device that was set is still to come.
+    pub fn to_come(&self)
+        ensures log { IsToCome (dc_of self.now).dc.system.log_usage }
+        ensures pages { IsToCome (dc_of self.now).dc.system.page_usage }
+    {
+        match self {
+            DataComponent::Up(dc) => dc.to_come(),
+            DataComponent::Down(stopped) => stopped.to_come(),
         }
     }
 

@@ -4,7 +4,7 @@ ghost use Rattle.std.specs.Prelude.{◌≡◌, true, false, Some, None, OnSome, 
 ghost use Rattle.std.specs.FinMap.{entries};
 ghost use Rattle.std.specs.Option.{option_copied};
 ghost use Rattle.record_key.specs.Lent.{op_lent};
-ghost use Rattle.stable.specs.Usage.{unused};
+ghost use Rattle.stable.specs.Usage.{IsToCome, unused};
 ghost use Rattle.btree.specs.Leaves.{rows_of};
 ghost use Rattle.node_laws.specs.system_txn.specs.Kept.{IsRecoverable};
 ghost use Rattle.codec.specs.Parted.{request_to};
@@ -249,6 +249,17 @@ impl<D: CrashLog, P: CrashPages> DcSide<D, P> {
         ensures { IsDc self.now.dc }
     {
         let _ = &self.component;
+    }
+
+    /// What holds at every moment: a failure of a device that was set is still to come.
+    pub fn to_come(&self)
+        ensures log { IsToCome self.now.dc.system.log_usage }
+        ensures pages { IsToCome self.now.dc.system.page_usage }
+    {
+        let Some(component) = &self.component else {
+            unreachable!();
+        };
+        component.to_come();
     }
 
     /// Whether it runs.

@@ -1,5 +1,6 @@
 //! What is left of the data component while it is down: its devices.
 ghost use Rattle.std.specs.Prelude.{◌≡◌, ◌⊎◌, ℕ, ◌≤◌, [], List, length, IfOk, IfErr};
+ghost use Rattle.stable.specs.Usage.{IsToCome};
 ghost use Rattle.node_laws.specs.system_txn.specs.Kept.{IsRecoverable};
 ghost use Rattle.node_laws.specs.system_txn.specs.SystemView.{failing_at};
 ghost use Rattle.node_laws.specs.system_txn.specs.Recovering.{HoldsFrames};
@@ -111,5 +112,14 @@ impl<D: CrashLog, P: CrashPages> StoppedDc<D, P> {
         ensures { IsDc self.now }
     {
         let _ = &self.found;
+    }
+
+    /// What holds at every moment: a failure of a device that was set is still to come.
+    pub fn to_come(&self)
+        ensures log { IsToCome self.now.system.log_usage }
+        ensures pages { IsToCome self.now.system.page_usage }
+    {
+        self.devices.log.kept();
+        self.devices.pages.kept();
     }
 }

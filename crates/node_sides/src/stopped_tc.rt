@@ -1,6 +1,6 @@
 //! What is left of the transaction component while it is down: its log's device.
 ghost use Rattle.std.specs.Prelude.{◌≡◌, ◌≤◌, ℕ, IfOk, IfErr, length};
-ghost use Rattle.stable.specs.Usage.{failing_in};
+ghost use Rattle.stable.specs.Usage.{IsToCome, failing_in};
 ghost use Rattle.node_laws.specs.tc_core.specs.Kept.{IsTc};
 ghost use Rattle.node_laws.specs.tc_core.specs.Opened.{crashed, IsOpenedAgain};
 ghost use Rattle.logical_log.specs.Opening.{UsedToOpen};
@@ -98,5 +98,12 @@ impl<D: CrashLog> StoppedTc<D> {
         ensures { IsTc self.now }
     {
         let _ = &self.found;
+    }
+
+    /// What holds at every moment: a failure of the device that was set is still to come.
+    pub fn to_come(&self)
+        ensures { IsToCome self.now.usage }
+    {
+        self.device.kept();
     }
 }

@@ -1,7 +1,7 @@
 //! The transaction component as half of a node, which may also step alone: it is handed the replies that it takes, and
 //! hands out the requests that it sends.
 ghost use Rattle.std.specs.Prelude.{◌≡◌, ◌≤◌, ℕ, true, false, length, Some, None, OnOk, OnErr, IfOk, IfErr, IfSome, IfNone};
-ghost use Rattle.stable.specs.Usage.{unused};
+ghost use Rattle.stable.specs.Usage.{IsToCome, unused};
 ghost use Rattle.framed_log.specs.Beginning.{beginning};
 ghost use Rattle.logical_log.specs.Spelled.{spelled};
 ghost use Rattle.std.specs.Option.{option_copied, option_map};
@@ -286,6 +286,16 @@ impl<D: CrashLog> TcSide<D> {
         ensures { IsTc self.now.tc }
     {
         let _ = &self.component;
+    }
+
+    /// What holds at every moment: a failure of the device that was set is still to come.
+    pub fn to_come(&self)
+        ensures { IsToCome self.now.tc.usage }
+    {
+        let Some(component) = &self.component else {
+            unreachable!();
+        };
+        component.to_come();
     }
 
     /// Whether it runs.

@@ -1,4 +1,5 @@
 //! The transaction component, which runs or is down.
+ghost use Rattle.stable.specs.Usage.{IsToCome};
 ghost use Rattle.node_laws.specs.tc_core.specs.Kept.{IsTc};
 ghost use Rattle.node_laws.specs.Component.{TcCrashesTo, TcRestartsTo};
 ghost use Rattle.node_sides.specs.Seen.{tc_of};
@@ -22,6 +23,16 @@ impl<D: CrashLog> TransactionComponent<D> {
         match self {
             TransactionComponent::Up(tc) => tc.kept(),
             TransactionComponent::Down(stopped) => stopped.kept(),
+        }
+    }
+
+    /// What holds at every moment: a failure of the device that was set is still to come.
+    pub fn to_come(&self)
+        ensures { IsToCome (tc_of self.now).tc.usage }
+    {
+        match self {
+            TransactionComponent::Up(tc) => tc.to_come(),
+            TransactionComponent::Down(stopped) => stopped.to_come(),
         }
     }
 

@@ -6,10 +6,10 @@
 //! refused take names the least holder and changes nothing, and locks go without memory.
 #![tactic(auto)]
 
+mod adding;
 mod entry;
 mod held;
 mod index;
-mod parts;
 mod places;
 mod plain_locks;
 mod range_locks;

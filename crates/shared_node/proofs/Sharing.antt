@@ -11,7 +11,6 @@ use Rattle.btree.specs.contracts.tree.TreeLeafSet.TheImpl as tree
 use Rattle.session_answers.specs.dc_core.proofs.base.Base.TheSendSync as base
 use Rattle.session_answers.specs.dc_core.specs.contracts.dc.Dc as Dc
 use Rattle.session_answers.specs.dc_core.specs.contracts.dc.Dc.TheInside as DcInside
-use Rattle.session_answers.specs.dc_core.specs.contracts.parts.Parts as Parts
 use Rattle.session_answers.specs.dc_core.specs.contracts.performances.Performances as Performances
 use Rattle.ghost_list.proofs.ghost_list.GhostList.TheSendSync as ghost_list
 use Rattle.page.proofs.leaf.Leaf.TheSendSync as leaf
@@ -46,11 +45,8 @@ module _ (D : RattleType) (d : log_device.Ghosts D.Denot) (sd : IsSend D) (P : R
   system_send : IsSend (SystemTxns.the_row Tree.the_row D P tree.ghosts d p)
   system_send = search (tree_send, system.the_send) depth 20
 
-  parts_send : IsSend (Parts.the_field D P d p).row
-  parts_send = search (base.the_send, performances_send, system_send, sendable) depth 40
-
   dc_inside_send : IsSend (DcInside.the_row D P d p)
-  dc_inside_send = search (parts_send, sendable) depth 20
+  dc_inside_send = search (base.the_send, performances_send, system_send, sendable) depth 40
 
   dc_send : IsSend (Dc.the_row D P d p)
   dc_send = search (dc_inside_send, sendable) depth 20

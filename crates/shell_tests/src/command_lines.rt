@@ -45,12 +45,14 @@ fn put_task(text: &mut String, task: Task<'_>) -> Result<(), Refusal> {
             creates,
             strict,
             interactive,
+            keeps_log,
         } => {
             put_run(text, continues, store)?;
             put_flag(text, " read only", reads_only)?;
             put_flag(text, " created", creates)?;
             put_flag(text, " strict", strict)?;
-            put_flag(text, " interactive", interactive)
+            put_flag(text, " interactive", interactive)?;
+            put_flag(text, " log kept", keeps_log)
         }
         Task::Check { store } => put_stored(text, "check", store),
         Task::Compact { store } => put_stored(text, "compact", store),
@@ -59,6 +61,11 @@ fn put_task(text: &mut String, task: Task<'_>) -> Result<(), Refusal> {
         Task::Load { store, creates } => {
             put_stored(text, "load", store)?;
             put_flag(text, " created", creates)
+        }
+        Task::Dc { store } => put_stored(text, "dc", store),
+        Task::Tc { store, script } => {
+            put_stored(text, "tc", store)?;
+            put_script(text, script)
         }
         Task::Pool { sessions, rounds } => Ok(write!(text, "pool {sessions} {rounds}")?),
         Task::Explain { at } => put_numbered(text, "explain", at),
@@ -70,6 +77,13 @@ fn put_task(text: &mut String, task: Task<'_>) -> Result<(), Refusal> {
 fn put_run(text: &mut String, continues: bool, store: Option<&str>) -> Result<(), Refusal> {
     text.push_str(if continues { "run on" } else { "run" })?;
     put_store(text, store)
+}
+
+fn put_script(text: &mut String, script: Option<&str>) -> Result<(), Refusal> {
+    match script {
+        Some(script) => Ok(write!(text, " plays {script}")?),
+        None => Ok(()),
+    }
 }
 
 fn put_flag(text: &mut String, flag: &str, is_set: bool) -> Result<(), Refusal> {

@@ -1,5 +1,5 @@
 -- How a device has been used, and which of its calls fails. Counts that contracts alone see, without a last value.
-use Rattle.std.specs.Prelude.{ℕ, ◌+◌, ◌||◌, Bool, false, nat_le, Option, Some, None, Result, Ok, Err, if◌then◌else◌}
+use Rattle.std.specs.Prelude.{ℕ, ◌+◌, ◌<◌, ◌≤◌, ◌||◌, Bool, false, nat_le, Option, Some, None, Result, Ok, Err, if◌then◌else◌}
 use Rattle.stable.specs.declared.error.DeviceError.{DeviceError}
 use Rattle.stable.specs.declared.error.DeviceError.TheVariants.{NoMemory, Device}
 
@@ -16,6 +16,11 @@ pub record Usage : Type 0 where
 abbrev pub counted_from : ℕ → Option ℕ → Option ℕ
 counted_from calls None = None
 counted_from calls (Some n) = Some (calls + n)
+
+-- a count down is to a call from the next one on
+abbrev pub Counts : Option ℕ → Type 0
+Counts None = Unit {0}
+Counts (Some n) = 1 ≤ n
 
 -- the call that was set to fail is the next one
 abbrev pub is_next : Option ℕ → ℕ → Bool
@@ -51,6 +56,15 @@ used u (Err Device) = failed u
 -- the n-th call from now is set to fail, in the place of one that was set and is still to come
 abbrev pub failing_in : ℕ → Usage → Usage
 failing_in n u = record u { failing = Some (u.calls + n) }
+
+-- a failure is still to come after so many calls
+abbrev pub IsAhead : Option ℕ → ℕ → Type 0
+IsAhead None calls = Unit {0}
+IsAhead (Some n) calls = calls < n
+
+-- the failure that was set is still to come: so no call that was due has succeeded
+abbrev pub IsToCome : Usage → Type 0
+IsToCome u = IsAhead u.failing u.calls
 
 -- so many calls more, all of which succeeded
 abbrev pub called_often : ℕ → Usage → Usage

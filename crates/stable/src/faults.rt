@@ -1,6 +1,6 @@
 //! How a device in memory was used, and the call of it that a test has set to fail.
 ghost use Rattle.std.specs.Prelude.{◌≡◌, ◌+◌, ◌≤◌, ◌↔◌, Some, IsTrue, IsErrOf, IsOkUnless};
-ghost use Rattle.stable.specs.Usage.{is_due, used, unused, failing_in};
+ghost use Rattle.stable.specs.Usage.{IsToCome, is_due, used, unused, failing_in};
 
 use crate::counter::Counter;
 use crate::error::DeviceError;
@@ -16,7 +16,7 @@ pub(crate) struct Faults {
 
 impl Model for Faults {
     ghost use Rattle.std.specs.Prelude.{false};
-    ghost use Rattle.stable.specs.Usage.{Usage, counted_from};
+    ghost use Rattle.stable.specs.Usage.{Counts, Usage, counted_from};
 
     ghost Value = { Usage };
 
@@ -26,6 +26,8 @@ impl Model for Faults {
       failing = counted_from f.calls.count f.countdown;
       freely = false;
     } };
+
+    ghost invariant = { λ f. Counts f.countdown };
 }
 
 impl Faults {
@@ -37,6 +39,13 @@ impl Faults {
             calls: Counter::new(),
             failures: Counter::new(),
         }
+    }
+
+    /// What holds at every moment: a failure that was set is still to come.
+    pub(crate) fn kept(&self)
+        ensures { IsToCome self.now }
+    {
+        let _ = &self.countdown;
     }
 
     /// The `n`-th call from now fails.

@@ -2,7 +2,7 @@
 ghost use Rattle.std.specs.Prelude.{◌≡◌, ℕ, ◌≤◌, Bool, true, false, List, [], ◌++◌, take, length, IsTrue, OnOk, OnErr, IfOk, IsErrOf, IsOkUnless};
 ghost use Rattle.std.specs.Borrow.{sem};
 ghost use Rattle.stable.specs.Device.{ForcesPart, Rests};
-ghost use Rattle.stable.specs.Usage.{Usage, is_due, is_set, used};
+ghost use Rattle.stable.specs.Usage.{IsToCome, Usage, is_due, is_set, used};
 
 use crate::error::DeviceError;
 use crate::spelling::Spelling;
@@ -75,6 +75,10 @@ pub trait LogDevice {
             (forced new ≡ forced self.old)
             × (pending new ≡ pending self.old)
             × (usage new ≡ used (usage self.old) result))) };
+
+    /// What holds at every moment: a failure that was set is still to come. This is no device call.
+    fn kept(&self)
+        ensures { IsToCome (usage self.now) };
 
     /// All bytes, the forced ones first, as the device holds them in memory. This is no device call: nothing is counted,
     /// and nothing fails.

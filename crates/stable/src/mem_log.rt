@@ -147,6 +147,10 @@ impl LogDevice for MemLog {
         Ok(&self.bytes)
     }
 
+    fn kept(&self) {
+        self.faults.kept();
+    }
+
     fn held(&self) -> &[u8]
         ensures { result.now ≡ self.now.forced ++ self.now.pending }
     {

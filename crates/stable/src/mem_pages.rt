@@ -73,6 +73,10 @@ impl PageDevice for MemPages {
 
     ghost usage = { λ device. device.usage };
 
+    fn kept(&self) {
+        self.faults.kept();
+    }
+
     fn make_room(&mut self, id: u64, len: usize) -> Result<(), AllocError>
         ensures room { OnOk result ((n : ℕ) → n ≤ len → has_room self.new.rooms id n ≡ true) }
         ensures kept { (other n : ℕ) → has_room self.old.rooms other n ≡ true

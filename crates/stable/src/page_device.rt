@@ -6,7 +6,7 @@ ghost use Rattle.std.specs.List.Sorted.{IsStrictlyIncreasing};
 ghost use Rattle.std.specs.Option.{option_map};
 ghost use Rattle.stable.specs.Device.{Rests};
 ghost use Rattle.stable.specs.PagesState.{Pages};
-ghost use Rattle.stable.specs.Usage.{Usage, is_due, is_set, used};
+ghost use Rattle.stable.specs.Usage.{IsToCome, Usage, is_due, is_set, used};
 
 use crate::error::DeviceError;
 use std::alloc::{AllocError, Global};
@@ -22,6 +22,10 @@ pub trait PageDevice {
 
     /// How many calls were made of it and how many of them failed, and which is set to fail.
     ghost usage: { Self → Usage };
+
+    /// What holds at every moment: a failure that was set is still to come. This is no device call.
+    fn kept(&self)
+        ensures { IsToCome (usage self.now) };
 
     /// Makes room for an image of at most this length in the place of a page, so that it can be written without more
     /// memory. Nothing is written: this is no call that is counted, and the device can't fail in it. Refused only where

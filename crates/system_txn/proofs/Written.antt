@@ -16,6 +16,8 @@ use Rattle.system_txn.specs.Changes.{covered, forced, written_to}
 use Rattle.system_txn.specs.Devices.{pages_of}
 use Rattle.system_txn.specs.Gives.{FailsWriting}
 use Rattle.system_txn.specs.Kept.{IsSystem}
+use Rattle.system_txn.specs.LogView.{ChangeLogView}
+use Rattle.system_txn.specs.Seen.{seen}
 use Rattle.system_txn.specs.SystemView.{SystemView}
 use Rattle.system_txn.proofs.Keeps.{keeps_forced, keeps_usage}
 use Rattle.system_txn.proofs.PageReading.{page_again}
@@ -94,6 +96,14 @@ pub keeps_failed : (v : SystemView) (leaf : LeafView) (new : SystemView) → IsS
 keeps_failed v leaf new h (inl force) = subst IsSystem (sym force.1.0) (keeps_usage v _ v.page_usage h)
 keeps_failed v leaf new h (inr write) =
     subst IsSystem (sym write.0) (keeps_usage (covered v leaf) _ _ (keeps_covered v leaf h))
+
+-- room that was made in the pages before makes no difference to a failure
+pub fails_alike : (leaves : List LeafView) (log : ChangeLogView) (pages before : Pages) (usage used : Usage)
+    (leaf there : LeafView) (new : SystemView) → before ≡ pages → used ≡ usage → leaf ≡ there
+    → FailsWriting (seen leaves log before used) leaf new → FailsWriting (seen leaves log pages usage) there new
+fails_alike leaves log pages before usage used leaf there new same unused is fails =
+    subst (λ (l : LeafView). FailsWriting (seen leaves log pages usage) l new) is
+    (subst (λ (v : SystemView). FailsWriting v leaf new) (λ i. seen leaves log (same i) (unused i)) fails)
 
 -- the leaf at a place is written
 pub keeps_written_at : (v : SystemView) (p : ℕ) → IsSystem v → p < length v.leaves

@@ -5,7 +5,7 @@ ghost use Rattle.codec.specs.DcRecords.{record_in, dc_record_bytes, IsOrderedDcR
 ghost use Rattle.codec.specs.Frames.{frame};
 ghost use Rattle.record_key.specs.FirstCause.{MayRefuse};
 ghost use Rattle.stable.specs.Crash.{BeginsWith};
-ghost use Rattle.stable.specs.Usage.{is_due, called, failed, failing_in};
+ghost use Rattle.stable.specs.Usage.{IsToCome, is_due, called, failed, failing_in};
 ghost use Rattle.recovery_laws.specs.Shape.{named};
 ghost use Rattle.framed_log.specs.Beginning.{beginning};
 ghost use Rattle.system_txn.specs.LogView.{AreFrames};
@@ -19,6 +19,9 @@ use record_key::Refusal;
 use stable::{CrashLog, LogDevice};
 use std::alloc::Global;
 use std::marker::Model;
+
+/// The greatest number that a record or a leaf may have.
+pub(crate) const LAST_NUMBER: u64 = 281_474_976_710_655;
 
 /// Records by their numbers, from 1, kept as bytes on a device.
 #[derive(Drop)]
@@ -190,6 +193,13 @@ impl<D: LogDevice> ChangeLog<D> {
         }
         self.stable = self.places.len() as u64;
         Ok(())
+    }
+
+    /// What holds at every moment: a failure of the device that was set is still to come.
+    pub fn to_come(&self)
+        ensures { IsToCome self.now.usage }
+    {
+        self.device.kept();
     }
 }
 

@@ -17,7 +17,6 @@ mod laws;
 mod opening;
 mod pages;
 mod parting;
-mod parts;
 mod reading;
 mod recovering;
 mod replaying;

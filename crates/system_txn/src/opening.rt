@@ -9,7 +9,6 @@ ghost use Rattle.system_txn.specs.Uses.{StopsOpening, log_calls, page_calls};
 use crate::change_log::ChangeLog;
 use crate::devices::{Devices, Refused};
 use crate::frames::cut_off;
-use crate::parts::Parts;
 use crate::recovering::find;
 use crate::system::SystemTxns;
 use btree::LeafSet;
@@ -60,14 +59,14 @@ impl<L: LeafSet, D: LogDevice, P: PageDevice> SystemTxns<L, D, P> {
         }
         let log = ChangeLog::reopened(alloc, log, found.places, found.end, found.next_id);
         let image = Vec::new(alloc);
-        let parts = Parts {
+        let system = SystemTxns {
             leaves,
             log,
             pages,
             image,
         };
         Ok(Opened {
-            system: SystemTxns { parts },
+            system,
             stored_session: found.stored_session,
         })
     }

@@ -5,23 +5,21 @@ ghost use Rattle.page.specs.Tops.{are_within};
 ghost use Rattle.btree.specs.Parting.{may_split_at, may_merge_at};
 ghost use Rattle.system_txn.specs.Changes.{first_large, first_pair};
 ghost use Rattle.system_txn.specs.Gives.{SplitGives, MergeGives, TendGives, Splits, Merges, StopsAppend, make_refusal, append_refusal};
-ghost use Rattle.system_txn.specs.Kept.{IsSystem};
-ghost use Rattle.system_txn.specs.Seen.{seen};
 
+use crate::change_log::LAST_NUMBER;
 use crate::image::image_of;
-use crate::parts::{LAST_NUMBER, Parts};
+use crate::system::SystemTxns;
 use crate::tended::{Neighbours, Tended};
 use btree::{LeafSet, may_merge, may_split, plan_merge, plan_split};
 use codec::DcRecordRef;
 use record_key::{Key, Refusal};
 use stable::{LogDevice, PageDevice};
 
-impl<L: LeafSet, D: LogDevice, P: PageDevice> Parts<L, D, P> {
+impl<L: LeafSet, D: LogDevice, P: PageDevice> SystemTxns<L, D, P> {
+    /// Splits the leaf that has the key at its middle record: one append to the log, then the leaves. Refused NotNow
+    /// where it has fewer than two records or an entry above the known end, NumbersSpent, NoMemory, Device.
     pub fn split(&mut self, key: &Key, known: u64) -> Result<Neighbours, Refusal>
-        requires { IsSystem (seen L.leaves P.pages P.usage self.old) }
-        ensures kept { IsSystem (seen L.leaves P.pages P.usage self.new) }
-        ensures gives { SplitGives (seen L.leaves P.pages P.usage self.old) key.now known result
-            (seen L.leaves P.pages P.usage self.new) }
+        ensures gives { SplitGives self.old key.now known result self.new }
     {
         let place = self.leaves.place_of(key);
         if !may_split(&self.leaves, place) || !self.leaves.leaf(place).is_within(known) {
@@ -30,11 +28,11 @@ impl<L: LeafSet, D: LogDevice, P: PageDevice> Parts<L, D, P> {
         self.split_at(place)
     }
 
+    /// Joins the leaf that has the key with the one after it, under its own number: one append to the log, then the
+    /// leaves. Refused NotNow where the two may not be joined or one has an entry above the known end, NumbersSpent,
+    /// NoMemory, Device.
     pub fn merge(&mut self, key: &Key, known: u64) -> Result<Neighbours, Refusal>
-        requires { IsSystem (seen L.leaves P.pages P.usage self.old) }
-        ensures kept { IsSystem (seen L.leaves P.pages P.usage self.new) }
-        ensures gives { MergeGives (seen L.leaves P.pages P.usage self.old) key.now known result
-            (seen L.leaves P.pages P.usage self.new) }
+        ensures gives { MergeGives self.old key.now known result self.new }
     {
         let place = self.leaves.place_of(key);
         if !may_merge(&self.leaves, place) || !pair_within(&self.leaves, place, known) {
@@ -43,12 +41,11 @@ impl<L: LeafSet, D: LogDevice, P: PageDevice> Parts<L, D, P> {
         self.merge_at(place)
     }
 
-    /// Splits the first large leaf; where there is none and merges are let, joins the first two that may be.
+    /// Splits the first large leaf; where there is none and merges are let, joins the first two that may be. Leaves
+    /// with an entry above the known end are passed over. Refused NumbersSpent, NoMemory, Device, and never where nothing
+    /// is to be done.
     pub fn tend(&mut self, merges: bool, known: u64) -> Result<Tended, Refusal>
-        requires { IsSystem (seen L.leaves P.pages P.usage self.old) }
-        ensures kept { IsSystem (seen L.leaves P.pages P.usage self.new) }
-        ensures gives { TendGives (seen L.leaves P.pages P.usage self.old) merges known result
-            (seen L.leaves P.pages P.usage self.new) }
+        ensures gives { TendGives self.old merges known result self.new }
     {
         if let Some(place) = self.leaves.first_large(known) {
             return Ok(Tended::Split(self.split_at(place)?));
@@ -63,14 +60,12 @@ impl<L: LeafSet, D: LogDevice, P: PageDevice> Parts<L, D, P> {
     }
 
     fn split_at(&mut self, place: usize) -> Result<Neighbours, Refusal>
-        requires kept { IsSystem (seen L.leaves P.pages P.usage self.old) }
-        requires may { may_split_at (L.leaves self.old.leaves) place ≡ true }
-        ensures kept { IsSystem (seen L.leaves P.pages P.usage self.new) }
-        ensures split { IfOk result (λ pair. Splits (seen L.leaves P.pages P.usage self.old) place pair
-            (seen L.leaves P.pages P.usage self.new)) }
+        requires { may_split_at self.old.leaves place ≡ true }
+        ensures split { IfOk result (λ pair. Splits self.old place pair
+            self.new) }
         ensures stopped { IfErr result (λ refusal. StopsAppend
-            (make_refusal (seen L.leaves P.pages P.usage self.old)) (seen L.leaves P.pages P.usage self.old) refusal
-            (seen L.leaves P.pages P.usage self.new)) }
+            (make_refusal self.old) self.old refusal
+            self.new) }
     {
         let last = self.log.len();
         let id = self.log.next_id();
@@ -93,14 +88,12 @@ impl<L: LeafSet, D: LogDevice, P: PageDevice> Parts<L, D, P> {
     }
 
     fn merge_at(&mut self, place: usize) -> Result<Neighbours, Refusal>
-        requires kept { IsSystem (seen L.leaves P.pages P.usage self.old) }
-        requires may { may_merge_at (L.leaves self.old.leaves) place ≡ true }
-        ensures kept { IsSystem (seen L.leaves P.pages P.usage self.new) }
-        ensures merged { IfOk result (λ pair. Merges (seen L.leaves P.pages P.usage self.old) place pair
-            (seen L.leaves P.pages P.usage self.new)) }
+        requires { may_merge_at self.old.leaves place ≡ true }
+        ensures merged { IfOk result (λ pair. Merges self.old place pair
+            self.new) }
         ensures stopped { IfErr result (λ refusal. StopsAppend
-            (append_refusal (seen L.leaves P.pages P.usage self.old)) (seen L.leaves P.pages P.usage self.old) refusal
-            (seen L.leaves P.pages P.usage self.new)) }
+            (append_refusal self.old) self.old refusal
+            self.new) }
     {
         let last = self.log.len();
         if last >= LAST_NUMBER {

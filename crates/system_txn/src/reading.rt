@@ -4,8 +4,8 @@ ghost use Rattle.codec.specs.DcRecords.{dc_record_bytes, FitsFrame};
 ghost use Rattle.codec.specs.Frames.{frame};
 ghost use Rattle.system_txn.specs.Reading.{log_so_far, IsReading, RefusesNext};
 
+use crate::change_log::LAST_NUMBER;
 use crate::known::Known;
-use crate::parts::LAST_NUMBER;
 use codec::DcRecord;
 use record_key::Refusal;
 use std::alloc::{AllocError, Global};

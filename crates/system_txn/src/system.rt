@@ -7,6 +7,7 @@ ghost use Rattle.record_key.specs.Table.{key_of};
 ghost use Rattle.ab_lsn.specs.AbLsn.{captures};
 ghost use Rattle.page.specs.Leaf.{first};
 ghost use Rattle.stable.specs.Crash.{BeginsWith};
+ghost use Rattle.stable.specs.Usage.{IsToCome};
 ghost use Rattle.record_key.specs.Order.{rows_in};
 ghost use Rattle.btree.specs.Leaves.{leaf_at, place_at, rows_of};
 ghost use Rattle.btree.specs.Performs.{PerformsAt};
@@ -14,14 +15,12 @@ ghost use Rattle.framed_log.specs.Beginning.{beginning};
 ghost use Rattle.system_txn.specs.SystemView.{fresh_system, failing_at};
 ghost use Rattle.system_txn.specs.Devices.{spelled};
 ghost use Rattle.system_txn.specs.Changes.{lowered};
-ghost use Rattle.system_txn.specs.Gives.{append_refusal, SplitGives, MergeGives, TendGives};
-ghost use Rattle.system_txn.specs.Gives.{FlushGives, CheckpointGives, AcceptGives};
+ghost use Rattle.system_txn.specs.Gives.{append_refusal};
 ghost use Rattle.system_txn.specs.Kept.{IsSystem};
 
+use crate::change_log::{ChangeLog, LAST_NUMBER};
 use crate::devices::{Device, Devices, Refused};
-use crate::parts::Parts;
-use crate::tended::{Neighbours, Tended};
-use btree::LeafSet;
+use btree::{LeafSet, one_leaf};
 use page::{AnswerSink, Done, Leaf, RowSink};
 use record_key::{Key, OpRef, Refusal, ValueRef};
 use stable::{CrashLog, CrashPages, LogDevice, PageDevice};
@@ -31,7 +30,11 @@ use std::marker::Model;
 /// Leaves, the log of what was done to them, and their pages.
 #[derive(Drop)]
 pub struct SystemTxns<L: LeafSet, D: LogDevice, P: PageDevice> {
-    pub(crate) parts: Parts<L, D, P>,
+    pub(crate) leaves: L,
+    pub(crate) log: ChangeLog<D>,
+    pub(crate) pages: P,
+    // Where a leaf's image is spelled before it is written.
+    pub(crate) image: Vec<u8>,
 }
 
 impl<L: LeafSet, D: LogDevice, P: PageDevice> Model for SystemTxns<L, D, P> {
@@ -45,9 +48,9 @@ impl<L: LeafSet, D: LogDevice, P: PageDevice> Model for SystemTxns<L, D, P> {
 
     ghost coded = { Prim.hlevel (codes, table_code, pages_code) };
 
-    ghost view = { λ s. seen L.leaves P.pages P.usage s.parts };
+    ghost view = { λ s. seen (L.leaves s.leaves) s.log (P.pages s.pages) (P.usage s.pages) };
 
-    ghost invariant = { λ s. IsSystem (seen L.leaves P.pages P.usage s.parts) };
+    ghost invariant = { λ s. IsSystem (seen (L.leaves s.leaves) s.log (P.pages s.pages) (P.usage s.pages)) };
 }
 
 impl<L: LeafSet, D: LogDevice, P: PageDevice> SystemTxns<L, D, P> {
@@ -60,8 +63,19 @@ impl<L: LeafSet, D: LogDevice, P: PageDevice> SystemTxns<L, D, P> {
         ensures same_log { IfErr result (λ left. left.devices.log ≡ log) }
         ensures same_pages { IfErr result (λ left. left.devices.pages ≡ pages) }
     {
-        let parts = Parts::new(alloc, log, pages)?;
-        Ok(SystemTxns { parts })
+        let leaves = match one_leaf(alloc) {
+            Ok(leaves) => leaves,
+            Err(refusal) => {
+                let devices = Devices { log, pages };
+                return Err(Refused { refusal, devices });
+            }
+        };
+        Ok(SystemTxns {
+            leaves,
+            log: ChangeLog::new(alloc, log),
+            pages,
+            image: Vec::new(alloc),
+        })
     }
 
     /// The devices, as a crash finds them: all records stand on the log's, and the stable ones are forced; no others
@@ -76,72 +90,16 @@ impl<L: LeafSet, D: LogDevice, P: PageDevice> SystemTxns<L, D, P> {
         ensures log_usage { D.usage result.log ≡ self.log_usage }
         ensures page_usage { P.usage result.pages ≡ self.page_usage }
     {
-        let SystemTxns { parts } = self;
-        let Parts {
+        let SystemTxns {
             leaves: _,
             log,
             pages,
             image: _,
-        } = parts;
+        } = self;
         Devices {
             log: log.stop(),
             pages,
         }
-    }
-
-    /// Splits the leaf that has the key at its middle record: one append to the log, then the leaves. Refused NotNow
-    /// where it has fewer than two records or an entry above the known end, NumbersSpent, NoMemory, Device.
-    pub fn split(&mut self, key: &Key, known: u64) -> Result<Neighbours, Refusal>
-        ensures gives { SplitGives self.old key.now known result self.new }
-    {
-        self.parts.split(key, known)
-    }
-
-    /// Joins the leaf that has the key with the one after it, under its own number: one append to the log, then the
-    /// leaves. Refused NotNow where the two may not be joined or one has an entry above the known end, NumbersSpent,
-    /// NoMemory, Device.
-    pub fn merge(&mut self, key: &Key, known: u64) -> Result<Neighbours, Refusal>
-        ensures gives { MergeGives self.old key.now known result self.new }
-    {
-        self.parts.merge(key, known)
-    }
-
-    /// Splits the first large leaf; where there is none and merges are let, joins the first two that may be. Leaves
-    /// with an entry above the known end are passed over. Refused NumbersSpent, NoMemory, Device, and never where nothing
-    /// is to be done.
-    pub fn tend(&mut self, merges: bool, known: u64) -> Result<Tended, Refusal>
-        ensures gives { TendGives self.old merges known result self.new }
-    {
-        self.parts.tend(merges, known)
-    }
-
-    /// Writes the leaf that has the key to its page, the log first where it has to be forced, and answers the leaf's
-    /// number: a force at most, and one write. Refused NotNow where it has an entry above the known end, or NoMemory,
-    /// and unchanged then; Device, where the log may be stable further.
-    pub fn flush(&mut self, key: &Key, known: u64) -> Result<u64, Refusal>
-        ensures gives { FlushGives self.old key.now known result self.new }
-    {
-        self.parts.flush(key, known)
-    }
-
-    /// Counts every request up to this number as performed, and writes each leaf. Refused NotNow where one has an entry
-    /// above the known end, or NoMemory, and unchanged then; Device, where all leaves have been raised and some
-    /// written.
-    pub fn checkpoint(&mut self, low: u64, known: u64) -> Result<(), Refusal>
-        requires { low < 2 ^ 48 }
-        ensures gives { CheckpointGives self.old low known result self.new }
-    {
-        self.parts.checkpoint(low, known)
-    }
-
-    /// Logs that the session is accepted, forces the log, and takes back in each leaf what its entries above the end of
-    /// the session's log did. Refused NumbersSpent, NoMemory, Device: the leaves are as before, and where the force
-    /// fails the record stands in the log.
-    pub fn accept(&mut self, session: u64, end: u64) -> Result<(), Refusal>
-        requires { session < 2 ^ 48 }
-        ensures gives { AcceptGives self.old session end result self.new }
-    {
-        self.parts.accept(session, end)
     }
 
     /// Whether the log has a number for one record more. Refused NumbersSpent.
@@ -149,7 +107,10 @@ impl<L: LeafSet, D: LogDevice, P: PageDevice> SystemTxns<L, D, P> {
         ensures allowed { OnOk result (append_refusal self.now ≡ None) }
         ensures refused { IfErr result (λ refusal. append_refusal self.now ≡ Some refusal) }
     {
-        self.parts.can_log()
+        if self.log.len() >= LAST_NUMBER {
+            return Err(Refusal::NumbersSpent);
+        }
+        Ok(())
     }
 
     /// Performs the operation under this number at the leaf of its key, or gives the answer that it had under it before,
@@ -173,7 +134,8 @@ impl<L: LeafSet, D: LogDevice, P: PageDevice> SystemTxns<L, D, P> {
         ensures untold { OnErr result (sink.new ≡ sink.old) }
         ensures memory { IsOkUnless result Refusal.NoMemory }
     {
-        self.parts.perform(number, op, asker, sink)
+        let done = self.leaves.perform(number, op, asker, sink)?;
+        Ok(done)
     }
 
     /// Counts every request up to this number as performed at each leaf. Takes no memory.
@@ -181,14 +143,14 @@ impl<L: LeafSet, D: LogDevice, P: PageDevice> SystemTxns<L, D, P> {
         requires { low < 2 ^ 48 }
         ensures { self.new ≡ lowered self.old low }
     {
-        self.parts.lower(low);
+        self.leaves.raise(low);
     }
 
     /// The value at the key. Takes no memory.
     pub fn get(&self, key: &Key) -> Option<ValueRef<'_>>
         ensures { result ≡ map.get (leaf_at self.now.leaves key.now).rows key.now }
     {
-        self.parts.leaves.get(key)
+        self.leaves.get(key)
     }
 
     /// Puts copies of the records from `low` on, below `high` where there is one, at the end of `found`. Refused NoMemory;
@@ -204,21 +166,21 @@ impl<L: LeafSet, D: LogDevice, P: PageDevice> SystemTxns<L, D, P> {
             (rows_of self.now.leaves)) }
         ensures memory { IsOkUnless result Refusal.NoMemory }
     {
-        self.parts.leaves.scan(low, high, found)
+        self.leaves.scan(low, high, found)
     }
 
     /// How many records the log has.
     pub fn records(&self) -> u64
         ensures { result ≡ length self.now.log }
     {
-        self.parts.log.len()
+        self.log.len()
     }
 
     /// The number up to which records are stable.
     pub fn stable_end(&self) -> u64
         ensures { result ≡ self.now.stable }
     {
-        self.parts.log.stable_end()
+        self.log.stable_end()
     }
 
     /// How many bytes of the log the first records have, so many.
@@ -226,7 +188,7 @@ impl<L: LeafSet, D: LogDevice, P: PageDevice> SystemTxns<L, D, P> {
         requires { count ≤ length self.now.log }
         ensures { result ≡ length (spelled (beginning self.now.log count)) }
     {
-        self.parts.log.end_of(count)
+        self.log.end_of(count)
     }
 
     /// How many leaves there are.
@@ -234,7 +196,7 @@ impl<L: LeafSet, D: LogDevice, P: PageDevice> SystemTxns<L, D, P> {
         ensures count { result ≡ length self.now.leaves }
         ensures some { 0 < result }
     {
-        self.parts.leaves.len()
+        self.leaves.len()
     }
 
     /// The leaf at a place, from 0, in key order.
@@ -242,7 +204,7 @@ impl<L: LeafSet, D: LogDevice, P: PageDevice> SystemTxns<L, D, P> {
         requires { place < length self.now.leaves }
         ensures { result.now ≡ get_or self.now.leaves place first }
     {
-        self.parts.leaves.leaf(place)
+        self.leaves.leaf(place)
     }
 
     /// The place of the leaf that has the key.
@@ -250,12 +212,12 @@ impl<L: LeafSet, D: LogDevice, P: PageDevice> SystemTxns<L, D, P> {
         ensures place { result ≡ place_at self.now.leaves key.now }
         ensures within { result < length self.now.leaves }
     {
-        self.parts.leaves.place_of(key)
+        self.leaves.place_of(key)
     }
 
     /// What serves the leaves' memory.
     pub fn allocator(&self) -> Global {
-        self.parts.leaves.allocator()
+        self.leaves.allocator()
     }
 
     /// What holds at every moment, whatever the devices held when they were opened: the leaves have all keys among
@@ -263,7 +225,16 @@ impl<L: LeafSet, D: LogDevice, P: PageDevice> SystemTxns<L, D, P> {
     pub fn kept(&self)
         ensures { IsSystem self.now }
     {
-        let _ = &self.parts;
+        let _ = &self.leaves;
+    }
+
+    /// What holds at every moment: a failure of a device that was set is still to come.
+    pub fn to_come(&self)
+        ensures log { IsToCome self.now.log_usage }
+        ensures pages { IsToCome self.now.page_usage }
+    {
+        self.log.to_come();
+        self.pages.kept();
     }
 }
 
@@ -275,8 +246,8 @@ impl<L: LeafSet, D: CrashLog, P: CrashPages> SystemTxns<L, D, P> {
         ensures { self.new ≡ failing_at device n self.old }
     {
         match device {
-            Device::Log => self.parts.log.fail_at(n),
-            Device::Pages => self.parts.pages.fail_at(n),
+            Device::Log => self.log.fail_at(n),
+            Device::Pages => self.pages.fail_at(n),
         }
     }
 }

@@ -2,11 +2,10 @@
 ghost use Rattle.std.specs.Prelude.{◌≡◌, ◌<◌, ◌^◌, map, IfOk, IsOkUnless};
 ghost use Rattle.page.specs.TakingBack.{taken_back};
 ghost use Rattle.system_txn.specs.Gives.{AcceptGives};
-ghost use Rattle.system_txn.specs.Kept.{IsSystem};
 ghost use Rattle.system_txn.specs.Replacing.{replaced, AllFit};
-ghost use Rattle.system_txn.specs.Seen.{seen};
 
-use crate::parts::{LAST_NUMBER, Parts};
+use crate::change_log::LAST_NUMBER;
+use crate::system::SystemTxns;
 use btree::LeafSet;
 use codec::DcRecordRef;
 use page::Leaf;
@@ -20,18 +19,18 @@ pub struct Replacement {
     pub leaf: Box<Leaf>,
 }
 
-impl<L: LeafSet, D: LogDevice, P: PageDevice> Parts<L, D, P> {
-    /// All memory for leaves is taken before the record is appended, so that no leaf is changed unless it is stable.
+impl<L: LeafSet, D: LogDevice, P: PageDevice> SystemTxns<L, D, P> {
+    /// Logs that the session is accepted, forces the log, and takes back in each leaf what its entries above the end of
+    /// the session's log did. Refused NumbersSpent, NoMemory, Device: the leaves are as before, and where the force
+    /// fails the record stands in the log.
     pub fn accept(&mut self, session: u64, end: u64) -> Result<(), Refusal>
-        requires kept { IsSystem (seen L.leaves P.pages P.usage self.old) }
-        requires number { session < 2 ^ 48 }
-        ensures kept { IsSystem (seen L.leaves P.pages P.usage self.new) }
-        ensures gives { AcceptGives (seen L.leaves P.pages P.usage self.old) session end result
-            (seen L.leaves P.pages P.usage self.new) }
+        requires { session < 2 ^ 48 }
+        ensures gives { AcceptGives self.old session end result self.new }
     {
         if self.log.len() >= LAST_NUMBER {
             return Err(Refusal::NumbersSpent);
         }
+        // All memory for leaves is taken before the record is appended, so that no leaf is changed unless it is stable.
         let replacements = copies_above(&self.leaves, end)?;
         self.log.append(&DcRecordRef::Accept { session })?;
         self.log.force()?;

@@ -2,7 +2,7 @@
 ghost use Rattle.std.specs.Prelude.{◌≡◌, ◌≤◌, ◌++◌, ◌+◌, ◌↔◌, ℕ, Option, [], true, false, length, Some, None, Ok, IsTrue, IfSome, IfNone, IfOk, IfErr, OnOk, OnErr};
 ghost use Rattle.std.specs.Option.{option_copied, option_map};
 ghost use Rattle.stable.specs.Crash.{BeginsWith};
-ghost use Rattle.stable.specs.Usage.{failing_in};
+ghost use Rattle.stable.specs.Usage.{IsToCome, failing_in};
 ghost use Rattle.history.specs.Log.{record_at, request_in};
 ghost use Rattle.framed_log.specs.Beginning.{beginning};
 ghost use Rattle.logical_log.specs.Opening.{RefusesOpen, UsedToOpen};
@@ -458,6 +458,13 @@ impl<D: LogDevice> Tc<D> {
         ensures { IsTc self.now }
     {
         let _ = &self.parts;
+    }
+
+    /// What holds at every moment: a failure of the log's device that was set is still to come.
+    pub fn to_come(&self)
+        ensures { IsToCome self.now.usage }
+    {
+        self.parts.log.to_come();
     }
 }
 

@@ -10,6 +10,7 @@ ghost use Rattle.std.specs.Prelude.{◌<◌};
 mod checked;
 mod conversing;
 mod dumped;
+mod halves;
 mod loaded;
 mod measured;
 mod progress;
@@ -25,6 +26,7 @@ use clap::error::ErrorKind;
 use command_line::{Task, choose};
 use conversing::converse_in_memory;
 use dumped::dump;
+use halves::{play_script, serve_requests};
 use loaded::load;
 use measured::measure;
 use node_pictures::draw;
@@ -84,6 +86,7 @@ where
                 creates,
                 strict,
                 interactive,
+                keeps_log,
             },
         ) => {
             let manner = Manner {
@@ -91,6 +94,7 @@ where
                 strict,
                 is_interactive: interactive | terminals.input,
                 prompts: terminals.input & terminals.output,
+                keeps_log: keeps_log | reads_only,
             };
             run_task(&rt, terminals, manner, store, (reads_only, creates))
         }
@@ -134,6 +138,8 @@ where
         Task::Dump { store } => dump(rt, terminals, store),
         Task::Load { store, creates } => load(rt, terminals, store, creates),
         Task::Stat { store } => measure(rt, terminals, store),
+        Task::Dc { store } => serve_requests(rt, store),
+        Task::Tc { store, script } => play_script(rt, store, script),
         Task::Explain { at } => tell_script(rt, Telling::Explained { at }),
         Task::Draw { last } => tell_script(rt, Telling::Drawn { last }),
         Task::Run { .. } | Task::Pool { .. } => FAULT,

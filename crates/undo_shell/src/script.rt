@@ -23,6 +23,8 @@ pub struct Manner {
     pub is_interactive: bool,
     /// And asked for.
     pub prompts: bool,
+    /// The log of its store isn't written anew where it has grown long.
+    pub keeps_log: bool,
 }
 
 /// All of standard input.

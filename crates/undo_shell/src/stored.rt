@@ -8,8 +8,8 @@ use crate::rising::bring_to_rest;
 use crate::script::{Manner, read_script, tell_run};
 use crate::terminals::Terminals;
 use file_devices::{
-    FileLog, FirstFailure, NoPages, StoreError, StoreFile, Torn, Tried, open_store, place_in_file,
-    read_store, reopen_store, replace_log,
+    FileLog, FirstFailure, NoPages, StoreError, StoreFile, Torn, Tried, first_len, open_store,
+    place_in_file, read_store, reopen_store, replace_log,
 };
 use node_shell::{DONE, FAILED, FAULT, Shell, Stopping, refuse, run_on};
 use node_store::{Cause, open, renew};
@@ -28,6 +28,9 @@ const JUDGED: u64 = 1 << 24;
 
 /// So many records are written anew in about a second.
 const RENEWED: u64 = 1 << 18;
+
+/// A log of fewer bytes is left as it is.
+const LONG: u64 = 1 << 22;
 
 /// What a store is opened for.
 #[derive(Clone, Copy)]
@@ -97,19 +100,94 @@ where
     }
 }
 
-/// Runs a script on the log of the store in this folder, and tells what of it the system has refused.
+/// Runs a script on the log of the store in this folder, or on what is left of it where it is due to be written anew.
 fn run_log<R>(rt: &R, terminals: Terminals, manner: Manner, folder: &str, log: FileLog) -> u8
+where
+    R: Input + Print + Eprint + AllocGlobal + Files<File = File> + Clock + Copy,
+    requires { log.pending ≡ [] }
+{
+    let failure = log.failure();
+    match node_on(rt, terminals, folder, log) {
+        Ok(world) => {
+            if !manner.keeps_log && is_renewal_due(rt, folder, &world) {
+                return run_renewed(rt, terminals, manner, folder, world);
+            }
+            run_node(rt, manner, folder, failure, world)
+        }
+        Err(status) => status,
+    }
+}
+
+/// Writes the log of a store anew on which this node is, and runs a script on that.
+fn run_renewed<R>(
+    rt: &R,
+    terminals: Terminals,
+    manner: Manner,
+    folder: &str,
+    world: Box<Node>,
+) -> u8
+where
+    R: Input + Print + Eprint + AllocGlobal + Files<File = File> + Clock + Copy,
+{
+    if let Err(status) = written_anew(rt, terminals, folder, &world) {
+        return status;
+    }
+    // It has the store open.
+    drop(world);
+    match reopen_store(rt, folder) {
+        Ok(log) => run_renewed_log(rt, terminals, manner, folder, log),
+        Err(error) => print_unopened(rt, folder, &error),
+    }
+}
+
+fn run_renewed_log<R>(
+    rt: &R,
+    terminals: Terminals,
+    manner: Manner,
+    folder: &str,
+    log: FileLog,
+) -> u8
 where
     R: Input + Print + Eprint + AllocGlobal + Files<File = File> + Clock,
     requires { log.pending ≡ [] }
 {
     let failure = log.failure();
     match node_on(rt, terminals, folder, log) {
-        Ok(world) => {
-            let status = run_world(rt, manner, Box::into_inner(world));
-            print_failure(rt, folder, failure, status)
-        }
+        Ok(world) => run_node(rt, manner, folder, failure, world),
         Err(status) => status,
+    }
+}
+
+/// Runs a script on the node of a store, and tells what of its log the system has refused.
+fn run_node<R>(
+    rt: &R,
+    manner: Manner,
+    folder: &str,
+    failure: Option<FirstFailure>,
+    world: Box<Node>,
+) -> u8
+where
+    R: Input + Print + Eprint + AllocGlobal,
+{
+    let status = run_world(rt, manner, Box::into_inner(world));
+    print_failure(rt, folder, failure, status)
+}
+
+/// Whether the log of a store has grown long: it has so many bytes, and twice what its last compaction left.
+fn is_renewal_due<R>(rt: &R, folder: &str, world: &Node) -> bool
+where
+    R: AllocGlobal + Files<File = File>,
+{
+    let Ok(bytes) = world.stable_bytes() else {
+        return false;
+    };
+    let len = bytes.len() as u64;
+    if len < LONG {
+        return false;
+    }
+    match first_len(rt, folder) {
+        Ok(left) => left <= len / 2,
+        Err(_) => false,
     }
 }
 
@@ -226,20 +304,39 @@ where
     }
 }
 
-/// Nobody is open in a node that was just opened: it has a log of its records alone. The store is open all the while.
 fn compact_node<R>(rt: &R, terminals: Terminals, folder: &str, world: &Node) -> u8
 where
     R: Print + Eprint + AllocGlobal + Files<File = File> + Clock,
+{
+    match written_anew(rt, terminals, folder, world) {
+        Ok((had, has)) => match println!(rt; "{had} bytes of log are {has}") {
+            Ok(()) => DONE,
+            Err(_) => FAILED,
+        },
+        Err(status) => status,
+    }
+}
+
+/// Writes the log of a store anew: how many bytes it had and has, or else the exit status. Nobody is open in a node that
+/// was just opened, so its records alone make a log. The store is open all the while.
+fn written_anew<R>(
+    rt: &R,
+    terminals: Terminals,
+    folder: &str,
+    world: &Node,
+) -> Result<(usize, usize), u8>
+where
+    R: Eprint + AllocGlobal + Files<File = File> + Clock,
 {
     let progress = announce_renewal(rt, terminals, world);
     let log = FileLog::volatile(rt.alloc());
     let tree = FileLog::volatile(rt.alloc());
     match renew(rt.alloc(), world, log, tree, NoPages::new()) {
-        Ok(renewed) => match replaced(rt, &progress, folder, world, &renewed) {
-            Ok(status) => status,
-            Err(refusal) => print_unread(rt, folder, Cause::Refused(refusal)),
-        },
-        Err(left) => print_unread(rt, folder, Cause::Refused(left.refusal)),
+        Ok(renewed) => {
+            progress.end(rt);
+            replaced(rt, folder, world, &renewed)
+        }
+        Err(left) => Err(print_unread(rt, folder, Cause::Refused(left.refusal))),
     }
 }
 
@@ -254,27 +351,19 @@ where
     progress
 }
 
-/// The log of the renewed node takes the place of the other's.
-fn replaced<R>(
-    rt: &R,
-    progress: &Progress,
-    folder: &str,
-    world: &Node,
-    renewed: &Node,
-) -> Result<u8, Refusal>
+/// The log of the renewed node takes the place of the other's: how many bytes they have. Else the exit status.
+fn replaced<R>(rt: &R, folder: &str, world: &Node, renewed: &Node) -> Result<(usize, usize), u8>
 where
-    R: Print + Eprint + AllocGlobal + Files<File = File>,
+    R: Eprint + AllocGlobal + Files<File = File>,
 {
-    progress.end(rt);
-    let had = world.stable_bytes()?.len();
-    let bytes = renewed.stable_bytes()?;
-    let has = bytes.len();
-    if let Err(error) = replace_log(rt, folder, bytes) {
-        return Ok(print_unopened(rt, folder, &error));
-    }
-    match println!(rt; "{had} bytes of log are {has}") {
-        Ok(()) => Ok(DONE),
-        Err(_) => Ok(FAILED),
+    match (world.stable_bytes(), renewed.stable_bytes()) {
+        (Ok(old), Ok(new)) => match replace_log(rt, folder, new) {
+            Ok(()) => Ok((old.len(), new.len())),
+            Err(error) => Err(print_unopened(rt, folder, &error)),
+        },
+        (Err(refusal), _) | (_, Err(refusal)) => {
+            Err(print_unread(rt, folder, Cause::Refused(refusal)))
+        }
     }
 }
 

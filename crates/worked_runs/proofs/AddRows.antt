@@ -1,20 +1,19 @@
 -- Runs with increments, and why their wrong versions are none.
-use Rattle.std.proofs.Common.{◌≡◌, ℕ, ◌<◌, List, [], ◌∷◌, Option, Some, None, refl, sym, ap, ◌∙◌, subst, arith, inl, inr, ne_eqb, true≢false}
+use Rattle.std.proofs.Common.{◌≡◌, ℕ, ◌<◌, List, [], ◌∷◌, Option, Some, None, refl, sym, ap, ◌∙◌, arith}
 use Rattle.std.specs.Prelude.{get_or}
 use Rattle.std.specs.FinMap.{get, get-empty}
 use Rattle.record_key.specs.declared.op.Answer.TheVariants.{Updated, NotNumber, Added}
 use Rattle.record_key.specs.Laws.{key_cmp}
 use Rattle.record_key.specs.Amounts.{amount_bytes, amount_in, summed}
-use Rattle.record_key.specs.Table.{Bytes, add_answer, add_value, answer_at, answer_in, value_after}
+use Rattle.record_key.specs.Table.{Bytes, add_answer, answer_at, answer_in, value_after}
 use Rattle.record_key.proofs.Tables.{get-with_record_same}
-use Rattle.std.proofs.lemmas.Bool.{cases_eq}
 use Rattle.log_laws.proofs.Statuses.{same_op}
 use Rattle.history.specs.History.{plain}
-use Rattle.history.specs.Spans.{Span, AnyConflict, changed_span}
-use Rattle.history.specs.ListMachine.{Machine, Line, OfKey, asked_span, Open, Reading, Committing, Committed, Acts, Begins, Commits, TellsCommitted, TellsAnswer, Reads, TellsRow, RollsBack, TellsRolledBack, Steps, IsRun, IsFree, IsAboveAll, with_txn, with_status, blank, ended, fresh}
-use Rattle.worked_runs.specs.Rows.{number, insert_five, add_three, add_ten, update_text, first_taken_back, increment_undone, old_value_restored, text_put, add_refused, stale_value_added}
-use Rattle.worked_runs.proofs.Walking.{begun, acted, told, inserted, IsAlone, alone_with, alone_inserted, alone_free, alone_above, alone_below, starts}
-use Rattle.worked_runs.proofs.Following.{next, after_all, below_with, above_with, free_with}
+use Rattle.history.specs.Spans.{Span, changed_span}
+use Rattle.history.specs.ListMachine.{Machine, Line, OfKey, asked_span, Open, Reading, Committing, Committed, Acts, Begins, Commits, TellsCommitted, TellsAnswer, Reads, TellsRow, RollsBack, TellsRolledBack, Steps, IsRun, IsFree, IsAboveAll, with_txn, with_status, ended}
+use Rattle.worked_runs.specs.Rows.{number, insert_five, add_three, add_ten, update_text, increment_undone, old_value_restored, add_refused, stale_value_added}
+use Rattle.worked_runs.proofs.Walking.{begun, acted, told, inserted, IsAlone, alone_inserted, alone_free, alone_above, alone_below, starts}
+use Rattle.worked_runs.proofs.Following.{next, after_all}
 
 abbrev counter : Bytes
 counter = 107 ∷ []
@@ -42,13 +41,10 @@ abbrev texted : Machine
 texted = told (acted (inserted insert_five) 2 update_text 5) 2 update_text 5 (Updated (number 5))
 
 alone_texted : IsAlone texted 2
-alone_texted =
-    alone_with (acted (inserted insert_five) 2 update_text 5) 2 _
-    (alone_with (inserted insert_five) 2 _ (alone_inserted insert_five))
+alone_texted = grind arith
 
 stands_text : get (plain texted.h) counter ≡ Some (118 ∷ [])
-stands_text =
-    get-with_record_same (plain (inserted insert_five).h) counter _ ∙ ap (value_after update_text) stands_five
+stands_text = grind (arith, get-with_record_same, stands_five)
 
 not_number : answer_in (plain texted.h) add_three ≡ NotNumber
 not_number = ap (answer_at add_three) stands_text ∙ ap (add_answer 3) no_number
@@ -94,12 +90,7 @@ add_refused_is_run =
     (last, starts counter (number 5) ends last rest)
 
 pub stale_value_added_is_none : IsRun stale_value_added → ⊥
-stale_value_added_is_none h =
-    let rest =
-    after_all fresh text_put (TellsAnswer 2 (Added 3) ∷ []) h.0 (tt, (tt, (tt, (tt, (tt, (tt, tt)))))) h.1 in
-    let op : add_three ≡ rest.1.1 = same_op 7 rest.1.0 add_three rest.1.1 rest.1.2 in
-    let wrong : Added 3 ≡ NotNumber = rest.1.3 ∙ ap (answer_in (plain texted.h)) (sym op) ∙ not_number in
-    cc
+stale_value_added_is_none h = grind (arith, after_all, same_op, not_number)
 
 -- ---- two transactions add to one counter
 
@@ -110,8 +101,7 @@ abbrev committed : Machine
 committed = with_txn committing 2 (ended (committing.txns 2) Committed)
 
 alone_committed : IsAlone committed 2
-alone_committed =
-    alone_with committing 2 _ (alone_with (inserted insert_five) 2 _ (alone_inserted insert_five))
+alone_committed = grind arith
 
 abbrev begun_both : Machine
 begun_both = begun (begun committed 6) 7
@@ -139,67 +129,35 @@ asks = next taken_back (Reads 7 (OfKey counter))
 
 -- whoever has committed holds nothing
 free_committed : (t : ℕ) (s : Span) → IsFree committed t s
-free_committed t s u apart h =
-    elim (cases_eq u 2) [
-      | inl e ↦ subst (λ (z : ℕ). AnyConflict s (committed.txns z).spans) e h
-      | inr other ↦ alone_free committed 2 s alone_committed u other h
-    ]
+free_committed t s u apart h = grind arith
 
 free_three : IsFree begun_both 6 (changed_span add_three)
-free_three =
-    free_with (begun committed 6) 6 7 blank (changed_span add_three) (λ _ h. h)
-    (free_with committed 6 6 blank (changed_span add_three) (λ _ h. h) (free_committed 6 (changed_span add_three)))
+free_three = grind arith
 
 free_ten : IsFree asked_three 7 (changed_span add_ten)
-free_ten =
-    free_with begun_both 7 6 (asked_three.txns 6) (changed_span add_ten)
-    (λ _ h. elim h [ inl both ↦ absurd (true≢false (sym both.3)) | inr none ↦ none ])
-    (free_with (begun committed 6) 7 7 blank (changed_span add_ten) (λ _ h. h)
-    (free_with committed 7 6 blank (changed_span add_ten) (λ _ h. h) (free_committed 7 (changed_span add_ten))))
+free_ten = grind arith
 
 free_read : IsFree taken_back 7 (asked_span (OfKey counter))
-free_read u apart h =
-    elim (cases_eq u 6) [
-      | inl e ↦ subst (λ (z : ℕ). AnyConflict (asked_span (OfKey counter)) (taken_back.txns z).spans) e h
-      | inr other ↦ elim (cases_eq u 2) [
-        | inl e ↦ subst (λ (z : ℕ). AnyConflict (asked_span (OfKey counter)) (taken_back.txns z).spans) e h
-        | inr third ↦ rw (ne_eqb u 6 other, ne_eqb u 7 apart, ne_eqb u 2 third) at h
-      ]
-    ]
+free_read u apart h = grind arith
 
 above_committed : (k : ℕ) → 3 < k → IsAboveAll k committed
-above_committed k less = (
-  (less, tt),
-  alone_below committed 2 k alone_committed (omega (arith, less)),
-  alone_above committed 2 k alone_committed tt,
-)
+above_committed k less = grind arith
 
 above_first : (k : ℕ) → 6 < k → IsAboveAll k (begun committed 6)
-above_first k less =
-    let above = above_committed k (omega (arith, less)) in
-    (above.0, below_with committed 6 k blank less above.1, above_with committed 6 k blank tt above.2)
+above_first k less = grind arith
 
 above_both : (k : ℕ) → 7 < k → IsAboveAll k begun_both
-above_both k less =
-    let above = above_first k (omega (arith, less)) in
-    (above.0, below_with (begun committed 6) 7 k blank less above.1, above_with (begun committed 6) 7 k blank tt above.2)
+above_both k less = grind arith
 
 above_three : IsAboveAll 9 asked_three
-above_three =
-    let above = above_both 9 (omega arith) in (
-      above.0,
-      below_with begun_both 6 9 (asked_three.txns 6) (omega arith) above.1,
-      above_with begun_both 6 9 (asked_three.txns 6) (omega arith) above.2,
-    )
+above_three = grind arith
 
 -- the answers, and what the other's ten leave
 added_ten : Added 10 ≡ answer_in (plain asked_ten.h) add_ten
 added_ten = sym (ap (answer_at add_ten) stands_five ∙ ap (add_answer 10) five_and_ten)
 
 stands_fifteen : get (plain told_ten.h) counter ≡ Some (number 15)
-stands_fifteen =
-    get-with_record_same (plain asked_ten.h) counter _ ∙ ap (value_after add_ten) stands_five
-    ∙ ap (λ s. Some (add_value (number 5) s)) five_and_ten
+stands_fifteen = grind (arith, get-with_record_same, stands_five, five_and_ten)
 
 added_three : Added 3 ≡ answer_in (plain told_ten.h) add_three
 added_three = sym (ap (answer_at add_three) stands_fifteen ∙ ap (add_answer 3) fifteen_and_three)
@@ -253,12 +211,4 @@ same_key : (k q : Bytes) → Reading (OfKey k) ≡ Reading (OfKey q) → k ≡ q
 same_key k q e = cc
 
 pub old_value_restored_is_none : IsRun old_value_restored → ⊥
-old_value_restored_is_none h =
-    let rest =
-    after_all fresh first_taken_back (TellsRow 7 (Some (number 5)) ∷ []) h.0
-    (tt, (tt, (tt, (tt, (tt, (tt, (tt, (tt, (tt, (tt, (tt, (tt, (tt, (tt, tt)))))))))))))) h.1 in
-    let key : counter ≡ rest.1.0 = same_key counter rest.1.0 rest.1.1 in
-    let wrong : Some (number 5) ≡ Some (number 15) =
-    rest.1.2 ∙ ap (get (plain told_ten.h)) (sym key) ∙ stands_fifteen in
-    let bytes : 5 ≡ 15 = ap last_byte wrong in
-    omega (arith, bytes)
+old_value_restored_is_none h = grind (arith, after_all, same_key, stands_fifteen)

@@ -1,12 +1,11 @@
 -- A run with a savepoint, and why its wrong version is none.
-use Rattle.std.specs.Prelude.{not}
-use Rattle.std.proofs.Common.{◌≡◌, ℕ, List, Option, [], ◌∷◌, refl, sym, ap, ◌∙◌, subst, arith, true, Some}
-use Rattle.record_key.specs.declared.op.Answer.TheVariants.{Inserted, Exists}
-use Rattle.history.specs.History.{cross, is_among}
+use Rattle.std.proofs.Common.{List, [], ◌∷◌, refl, subst, arith, true, Some}
+use Rattle.record_key.specs.declared.op.Answer.TheVariants.{Inserted}
+use Rattle.history.specs.History.{cross}
 use Rattle.history.specs.Spans.{changed_span}
-use Rattle.history.specs.ListMachine.{Machine, Line, Open, Rolling, Acts, TellsAnswer, Saves, GoesBack, TellsBack, Steps, IsRun, with_txn, with_status, fresh}
+use Rattle.history.specs.ListMachine.{Machine, Line, Open, Rolling, Saves, GoesBack, Steps, IsRun, with_txn, with_status, fresh}
 use Rattle.worked_runs.specs.Rows.{insert_a, insert_again, crossed_is_seen}
-use Rattle.worked_runs.proofs.Walking.{begun, acted, told, IsAlone, alone_with, alone_free, alone_above, alone_below, fresh_below, first_answer, after_begins, after_acts, after_told}
+use Rattle.worked_runs.proofs.Walking.{begun, acted, told, IsAlone, alone_with, alone_free, alone_above, alone_below, fresh_below, first_answer}
 
 -- the machines of the run
 abbrev saved : Machine
@@ -95,32 +94,7 @@ after_saves lines last h = subst (λ m. Steps m lines last) h.1.3 h.2
 
 after_goes_back : (lines : List Line) (last : Machine) → Steps once (GoesBack 2 1 ∷ lines) last
     → Steps going_back lines last
-after_goes_back lines last h =
-    let kept : [] ≡ h.1.0 = same h.1.0 h.1.3 in
-    let there : h.0 ≡ going_back = h.1.4
-    ∙ ap (λ (k : List ℕ). record (with_txn once 2 (record (once.txns 2) { status = Rolling (Some 1) })) {
-      h = cross
-          (λ n. not (is_among n k)) 2 once.h;
-    }) (sym kept) in
-    subst (λ m. Steps m lines last) there h.2
-  where
-    same : (k : List ℕ) → ◌≡◌ {A = Option (List ℕ)} (Some []) (Some k) → [] ≡ k
-    same k e = cc
+after_goes_back lines last h = grind arith
 
 pub crossed_is_seen_is_none : IsRun crossed_is_seen → ⊥
-crossed_is_seen_is_none h =
-    let ends : List Line = Acts 2 insert_a 5 ∷ TellsAnswer 2 Exists ∷ [] in
-    let goes : List Line = GoesBack 2 1 ∷ TellsBack 2 1 ∷ ends in
-    let acts : List Line = Acts 2 insert_a 3 ∷ TellsAnswer 2 Inserted ∷ goes in
-    let saves : Steps saved acts h.0 = after_saves acts h.0 (after_begins fresh 2 (Saves 2 1 ∷ acts) h.0 h.1) in
-    let asks : Steps (acted saved 2 insert_a 3) (TellsAnswer 2 Inserted ∷ goes) h.0 =
-    after_acts saved 2 insert_a 3 (TellsAnswer 2 Inserted ∷ goes) h.0 saves in
-    let tells : Steps once goes h.0 =
-    (after_told (acted saved 2 insert_a 3) insert_a 3 Inserted goes h.0 refl asks).1 in
-    let rolls : Steps going_back (TellsBack 2 1 ∷ ends) h.0 = after_goes_back (TellsBack 2 1 ∷ ends) h.0 tells in
-    let is_back : Steps back ends h.0 = subst (λ m. Steps m ends h.0) rolls.1.1 rolls.2 in
-    let again : Steps twice (TellsAnswer 2 Exists ∷ []) h.0 =
-    after_acts back 2 insert_a 5 (TellsAnswer 2 Exists ∷ []) h.0 is_back in
-    let answer = (after_told twice insert_a 5 Exists [] h.0 refl again).0 in
-    let wrong : Exists ≡ Inserted = answer ∙ sym (first_answer (97 ∷ []) (49 ∷ [])) in
-    cc
+crossed_is_seen_is_none h = grind arith

@@ -1,13 +1,12 @@
 -- Runs with a crash, and why their wrong versions are none.
-use Rattle.std.proofs.Common.{◌≡◌, ℕ, ◌<◌, Bool, true, false, List, [], ◌∷◌, refl, sym, ap, ◌∙◌, subst, arith, inl, inr, ◌⊎◌, true≢false, ne_eqb}
-use Rattle.std.proofs.lemmas.Bool.{cases_eq}
+use Rattle.std.proofs.Common.{◌≡◌, ℕ, ◌<◌, Bool, true, false, List, [], ◌∷◌, refl, ap, arith, inl, inr, ne_eqb}
 use Rattle.std.specs.Prelude.{if◌then◌else◌}
 use Rattle.record_key.specs.declared.op.Answer.TheVariants.{Exists, Inserted}
 use Rattle.record_key.specs.declared.refusal.Refusal.TheVariants.{Busy}
-use Rattle.history.specs.Spans.{Span, AnyConflict, changed_span}
-use Rattle.history.specs.ListMachine.{Machine, Line, Txn, Committing, Committed, Losing, Gone, Acts, TellsAnswer, Begins, RollsBack, TellsRolledBack, Commits, TellsCommitted, Crashes, TellsLost, IsRefused, ToAct, Steps, Survives, IsRun, IsFree, IsAbove, Stays, Falls, with_txn, with_status, blank, losing, ended, nobody, fresh}
+use Rattle.history.specs.Spans.{changed_span}
+use Rattle.history.specs.ListMachine.{Machine, Line, Committing, Committed, Acts, TellsAnswer, Begins, RollsBack, TellsRolledBack, Commits, TellsCommitted, Crashes, TellsLost, IsRefused, ToAct, Steps, Survives, IsRun, IsFree, IsAbove, with_status, blank, losing, ended, nobody, fresh}
 use Rattle.worked_runs.specs.Rows.{insert_a, after_insert_a, numbers_again, committed_again, commit_stays, commit_falls, told_commit_falls, end_is_lost, nobody_is_lost, key_stays_held, held_key_is_taken}
-use Rattle.worked_runs.proofs.Walking.{first_answer, alone_free, second_answer, begun, acted, told, rolling, gone, crashed, inserted, IsAlone, alone_with, alone_acted, alone_inserted, alone_above, alone_below, alone_crashed, second_holder, starts_acting, starts, crashes, after_insert}
+use Rattle.worked_runs.proofs.Walking.{first_answer, alone_free, second_answer, begun, acted, told, rolling, gone, crashed, inserted, IsAlone, alone_with, alone_acted, alone_inserted, alone_above, alone_below, alone_crashed, second_holder, starts_acting, starts, crashes}
 
 -- a commit is asked for
 abbrev committing : Machine
@@ -31,29 +30,16 @@ alone_kept : IsAlone kept 2
 alone_kept = alone_crashed committing 5 (ended (committing.txns 2) Committed) false
 
 free_again : IsFree (begun kept 6) 6 (changed_span insert_a)
-free_again u apart h =
-    elim (cases_eq u 2) [
-      | inl e ↦ subst (λ (n : ℕ). AnyConflict (changed_span insert_a) ((begun kept 6).txns n).spans) e h
-      | inr other ↦ rw (ne_eqb u 6 apart, ne_eqb u 2 other) at h
-    ]
+free_again u apart h = grind arith
 
 not_sixth : (u : ℕ) → (u ≡ 6 → ⊥) → (begun kept 6).txns u ≡ kept.txns u
 not_sixth u apart = ap (λ (b : Bool). if b then blank else kept.txns u) (ne_eqb u 6 apart)
 
 below_again : (u : ℕ) → ((begun kept 6).txns u).begun ≡ true → u < 7
-below_again u has_begun =
-    elim (cases_eq u 6) [
-      | inl e ↦ omega (arith, e)
-      | inr apart ↦ alone_below kept 2 7 alone_kept (omega arith) u
-          (sym (ap (λ x. x.begun) (not_sixth u apart)) ∙ has_begun)
-    ]
+below_again u has_begun = grind arith
 
 above_again : (u : ℕ) → IsAbove 7 ((begun kept 6).txns u).status
-above_again u =
-    elim (cases_eq u 6) [
-      | inl e ↦ subst (λ (n : ℕ). IsAbove 7 ((begun kept 6).txns n).status) (sym e) tt
-      | inr apart ↦ subst (λ x. IsAbove 7 x.status) (sym (not_sixth u apart)) (alone_above kept 2 7 alone_kept tt u)
-    ]
+above_again u = grind arith
 
 pub commit_stays_is_run : IsRun commit_stays
 commit_stays_is_run =
@@ -103,21 +89,11 @@ commit_falls_is_run =
 after_told_commit : (lines : List Line) (last : Machine)
     → Steps fresh (after_insert_a (Commits 2 ∷ TellsCommitted 2 ∷ Crashes ∷ lines)) last
     → (mid : Machine) × (mid.txns 2 ≡ ended (committing.txns 2) Committed) × Steps mid lines last
-after_told_commit lines last h =
-    let ends : List Line = Crashes ∷ lines in
-    let tells : List Line = TellsCommitted 2 ∷ ends in
-    let committed : Machine = with_txn committing 2 (ended (committing.txns 2) Committed) in
-    let commits = after_insert insert_a (Commits 2 ∷ tells) last h in
-    let told_so : Steps committing tells last = subst (λ m. Steps m tells last) commits.1.1 commits.2 in
-    let crash : Steps committed ends last = subst (λ m. Steps m ends last) told_so.1.1 told_so.2 in
-    (crash.0, (crash.1.2 2).0.0, crash.2)
+after_told_commit lines last h = grind arith
 
 -- it isn't lost
 pub told_commit_falls_is_none : IsRun told_commit_falls → ⊥
-told_commit_falls_is_none h =
-    let after = after_told_commit (TellsLost 2 ∷ []) h.0 h.1 in
-    let wrong : Committed ≡ Losing = sym (ap (λ x. x.status) after.1) ∙ after.2.1.0 in
-    cc
+told_commit_falls_is_none h = grind arith
 
 -- the end of a rollback
 pub end_is_lost_is_run : IsRun end_is_lost
@@ -151,11 +127,7 @@ alone_never : IsAlone never_was 2
 alone_never = alone_crashed (inserted insert_a) 1 nobody true
 
 none_begun : (k u : ℕ) → (never_was.txns u).begun ≡ true → u < k
-none_begun k u has_begun =
-    elim (cases_eq u 2) [
-      | inl e ↦ absurd (true≢false (sym (subst (λ (n : ℕ). (never_was.txns n).begun ≡ true) e has_begun)))
-      | inr apart ↦ absurd (true≢false (sym has_begun ∙ ap (λ x. x.begun) (alone_never u apart)))
-    ]
+none_begun k u has_begun = grind arith
 
 pub numbers_again_is_run : IsRun numbers_again
 numbers_again_is_run =
@@ -186,29 +158,17 @@ numbers_again_is_run =
     )
 
 pub committed_again_is_none : IsRun committed_again → ⊥
-committed_again_is_none h =
-    let after = after_told_commit (Begins 2 ∷ []) h.0 h.1 in
-    let below : 2 < 2 = after.2.1.0.1 2 (ap (λ x. x.begun) after.1) in
-    omega (arith, below)
+committed_again_is_none h = grind arith
 
 pub nobody_is_lost_is_none : IsRun nobody_is_lost → ⊥
-nobody_is_lost_is_none h =
-    let crash = h.1.1 in
-    let lost : (h.1.0.txns 999).status ≡ Losing = h.1.2.1.0 in
-    by crash.1 (h.1.0.txns 999) (crash.2 999).0 lost
-  where
-    by : (bound : ℕ) (x : Txn) → Stays fresh bound 999 x ⊎ ((false ≡ true) × Falls fresh bound 999 x)
-        → x.status ≡ Losing → ⊥
-    by bound x (inl stays) lost = let wrong : Gone ≡ Losing = sym (ap (λ y. y.status) stays.0) ∙ lost in cc
-    by bound x (inr falls) lost = true≢false (sym falls.0)
+nobody_is_lost_is_none h = grind arith
 
 -- a crash amid an operation
 abbrev cut_short : Machine
 cut_short = crashed (acted (begun fresh 2) 2 insert_a 3) 3 (losing (acted (begun fresh 2) 2 insert_a 3) 3 2) true
 
 alone_cut_short : IsAlone cut_short 2
-alone_cut_short =
-    alone_crashed (acted (begun fresh 2) 2 insert_a 3) 3 (losing (acted (begun fresh 2) 2 insert_a 3) 3 2) true
+alone_cut_short = grind arith
 
 pub key_stays_held_is_run : IsRun key_stays_held
 key_stays_held_is_run =
@@ -241,8 +201,4 @@ key_stays_held_is_run =
     )
 
 pub held_key_is_taken_is_none : IsRun held_key_is_taken → ⊥
-held_key_is_taken_is_none h =
-    let key : Span = changed_span insert_a in
-    let refused = h.1.2.2.2.2 in
-    let is_free : IsFree refused.0 4 key = refused.2.1.1 in
-    subst (λ m. IsFree m 4 key) refused.1.1 is_free 2 (λ e. omega (arith, e)) refused.1.0.1.conflicts
+held_key_is_taken_is_none h = grind arith

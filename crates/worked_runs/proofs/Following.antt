@@ -1,9 +1,6 @@
 -- Each line of these kinds leaves one machine, and what a machine has of others stays while one transaction changes.
-use Rattle.std.proofs.Common.{◌≡◌, ◌≢◌, ℕ, ◌<◌, Bool, true, List, [], ◌∷◌, ◌++◌, None, sym, ap, ◌∙◌, subst, arith, inl, inr}
-use Rattle.std.specs.Prelude.{if◌then◌else◌}
+use Rattle.std.proofs.Common.{◌≡◌, ◌≢◌, ℕ, ◌<◌, true, List, [], ◌∷◌, ◌++◌, None, subst, arith}
 use Rattle.std.specs.List.{AllByRecursion}
-use Rattle.std.proofs.Common.{ne_eqb, eq-eqb}
-use Rattle.std.proofs.lemmas.Bool.{cases_eq}
 use Rattle.record_key.specs.declared.op.Answer.{Answer}
 use Rattle.history.specs.History.{cross}
 use Rattle.history.specs.Spans.{Span, AnyConflict}
@@ -47,16 +44,7 @@ IsPlain (TellsRolledBack t) = Unit {0}
 IsPlain _ = ⊥
 
 leaves_next : (m : Machine) (line : Line) (n : Machine) → IsPlain line → Step m line n → n ≡ next m line
-leaves_next m (Begins t) n plain h = h.1
-leaves_next m (Acts t o k) n plain h = h.4
-leaves_next m (TellsAnswer t a) n plain h = h.4 ∙ ap (answered m t a) (sym h.2)
-leaves_next m (Reads t q) n plain h = h.3
-leaves_next m (TellsRow t value) n plain h = h.3
-leaves_next m (Commits t) n plain h = h.1
-leaves_next m (TellsCommitted t) n plain h = h.1
-leaves_next m (RollsBack t) n plain h = h.1
-leaves_next m (TellsRolledBack t) n plain h = h.1
-leaves_next m _ n plain h = absurd plain
+leaves_next m line n plain h = grind arith
 
 -- so what follows such lines follows from there
 pub after_all : (m : Machine) (lines rest : List Line) (last : Machine) → AllByRecursion IsPlain lines
@@ -70,28 +58,13 @@ after_all m (line ∷ lines) rest last plain h =
 
 pub below_with : (m : Machine) (t k : ℕ) (x : Txn) → t < k → ((u : ℕ) → (m.txns u).begun ≡ true → u < k)
     → (u : ℕ) → ((with_txn m t x).txns u).begun ≡ true → u < k
-below_with m t k x own below u has =
-    elim (cases_eq u t) [
-      | inl e ↦ omega (arith, e, own)
-      | inr apart ↦ below u (sym (ap (λ (b : Bool). (if b then x else m.txns u).begun) (ne_eqb u t apart)) ∙ has)
-    ]
+below_with m t k x own below u has = grind arith
 
 pub above_with : (m : Machine) (t k : ℕ) (x : Txn) → IsAbove k x.status → ((u : ℕ) → IsAbove k (m.txns u).status)
     → (u : ℕ) → IsAbove k ((with_txn m t x).txns u).status
-above_with m t k x own above u =
-    elim (cases_eq u t) [
-      | inl e ↦ subst (λ (b : Bool). IsAbove k (if b then x else m.txns u).status) (sym (eq-eqb u t e)) own
-      | inr apart ↦ subst (λ (b : Bool). IsAbove k (if b then x else m.txns u).status) (sym (ne_eqb u t apart))
-          (above u)
-    ]
+above_with m t k x own above u = grind arith
 
 -- nobody but this transaction is in the way of a span
 pub free_with : (m : Machine) (t v : ℕ) (x : Txn) (s : Span) → (v ≢ t → AnyConflict s x.spans → ⊥) → IsFree m t s
     → IsFree (with_txn m v x) t s
-free_with m t v x s own free u apart h =
-    elim (cases_eq u v) [
-      | inl e ↦ own (λ same. apart (e ∙ same))
-          (subst (λ (b : Bool). AnyConflict s (if b then x else m.txns u).spans) (eq-eqb u v e) h)
-      | inr other ↦ free u apart
-          (subst (λ (b : Bool). AnyConflict s (if b then x else m.txns u).spans) (ne_eqb u v other) h)
-    ]
+free_with m t v x s own free u apart h = grind arith

@@ -1,8 +1,8 @@
 -- Two runs without crashes, and why their wrong versions are none.
-use Rattle.std.proofs.Common.{◌≡◌, List, [], ◌∷◌, None, refl, sym, ◌∙◌, subst, arith}
-use Rattle.record_key.specs.declared.op.Answer.TheVariants.{Inserted, Exists}
+use Rattle.std.proofs.Common.{List, [], ◌∷◌, refl, subst, arith}
+use Rattle.record_key.specs.declared.op.Answer.TheVariants.{Exists}
 use Rattle.history.specs.Spans.{changed_span}
-use Rattle.history.specs.ListMachine.{fresh, Begins, Machine, Line, Open, Rolling, Acts, TellsAnswer, RollsBack, TellsRolledBack, Steps, IsRun, HasStatus}
+use Rattle.history.specs.ListMachine.{fresh, Begins, Machine, Line, Open, Acts, TellsAnswer, RollsBack, TellsRolledBack, Steps, IsRun, HasStatus}
 use Rattle.worked_runs.specs.Rows.{insert_a, insert_first, insert_second, insert_rolled_back, never_rolling_back, number_twice, insert_twice, inserted_twice}
 use Rattle.worked_runs.proofs.Walking.{begun, after_begins, second_answer, acted, told, rolling, gone, inserted, alone_inserted, alone_free, alone_above, alone_below, starts, after_acts, after_told, after_insert}
 
@@ -42,10 +42,7 @@ second_insert_is_run =
 
 -- nobody is told that it rolled back who didn't ask for it
 pub never_rolling_back_is_none : IsRun never_rolling_back → ⊥
-never_rolling_back_is_none h =
-    let rest = after_insert insert_a (TellsRolledBack 2 ∷ []) h.0 h.1 in
-    let status : Open ≡ Rolling None = rest.1.0 in
-    cc
+never_rolling_back_is_none h = grind arith
 
 -- nobody begins by the number of another that began
 pub number_twice_is_none : IsRun number_twice → ⊥
@@ -60,12 +57,4 @@ number_twice_is_none h =
 
 -- a second insert isn't answered Inserted
 pub inserted_twice_is_none : IsRun inserted_twice → ⊥
-inserted_twice_is_none h =
-    let m : Machine = inserted insert_first in
-    let ends : List Line = RollsBack 2 ∷ TellsRolledBack 2 ∷ [] in
-    let tells : List Line = TellsAnswer 2 Inserted ∷ ends in
-    let rest = after_insert insert_first (Acts 2 insert_second 5 ∷ tells) h.0 h.1 in
-    let then_told = after_acts m 2 insert_second 5 tells h.0 rest in
-    let answer = (after_told (acted m 2 insert_second 5) insert_second 5 Inserted ends h.0 refl then_told).0 in
-    let wrong : Inserted ≡ Exists = answer ∙ sym (second_answer (107 ∷ []) (49 ∷ []) (50 ∷ [])) in
-    cc
+inserted_twice_is_none h = grind (arith, inserted, after_insert, after_acts, after_told, acted, second_answer)

@@ -1,5 +1,5 @@
 -- Machines of short runs: what may follow a line, and what must.
-use Rattle.std.proofs.Common.{◌≡◌, ℕ, ◌<◌, Bool, true, false, List, [], ◌∷◌, Some, None, refl, sym, ap, ◌∙◌, subst, arith, inl, inr, ne_eqb, true≢false}
+use Rattle.std.proofs.Common.{◌≡◌, ℕ, ◌<◌, Bool, true, false, List, [], ◌∷◌, Some, None, refl, sym, ap, ◌∙◌, subst, arith, ne_eqb, true≢false}
 use Rattle.std.specs.Prelude.{◌==◌, map, if◌then◌else◌}
 use Rattle.std.specs.List.{AllByRecursion}
 use Rattle.std.specs.FinMap.{get-empty}
@@ -8,13 +8,12 @@ use Rattle.record_key.specs.declared.op.Op.{Op}
 use Rattle.record_key.specs.declared.op.Op.TheVariants.{Insert}
 use Rattle.record_key.specs.declared.op.Answer.{Answer}
 use Rattle.record_key.specs.declared.op.Answer.TheVariants.{Inserted, Exists}
-use Rattle.record_key.specs.Table.{Bytes, answer_at, answer_in, value_after}
+use Rattle.record_key.specs.Table.{Bytes, answer_at, answer_in}
 use Rattle.record_key.specs.Laws.{key_cmp}
 use Rattle.record_key.proofs.Tables.{get-with_record_same}
 use Rattle.history.specs.History.{Entry, plain, placed, cross}
 use Rattle.history.specs.Spans.{Span, AnyConflict, changed_span}
 use Rattle.history.specs.ListMachine.{Machine, Txn, Open, Waiting, Rolling, Gone, Line, Begins, Acts, TellsAnswer, Crashes, Step, Steps, AreAllLeft, Survives, IsAbove, IsAboveAll, HasStatus, IsFree, IsHolder, with_txn, with_status, fallen, blank, nobody, ended, fresh}
-use Rattle.log_laws.proofs.Statuses.{same_number, same_op}
 
 -- the machine after a line
 abbrev pub begun : Machine → ℕ → Machine
@@ -58,9 +57,7 @@ first_answer a b = ap (answer_at (Insert a b)) (sym (get-empty key_cmp a))
 
 -- and one that is
 pub second_answer : (a b c : Bytes) → Exists ≡ answer_in (plain (inserted (Insert a b)).h) (Insert a c)
-second_answer a b c =
-    let there = get-with_record_same (plain []) a _ ∙ ap (value_after (Insert a b)) (get-empty key_cmp a) in
-    sym (ap (answer_at (Insert a c)) there)
+second_answer a b c = grind (arith, get-with_record_same)
 
 -- nobody else has begun
 abbrev pub IsAlone : Machine → ℕ → Type 0
@@ -81,19 +78,11 @@ alone_free m t s alone u apart h = subst (λ x. AnyConflict s x.spans) (alone u 
 
 pub alone_above : (m : Machine) (t k : ℕ) → IsAlone m t → IsAbove k (m.txns t).status → (u : ℕ)
     → IsAbove k (m.txns u).status
-alone_above m t k alone own u =
-    elim (cases_eq u t) [
-      | inl e ↦ subst (λ (n : ℕ). IsAbove k (m.txns n).status) (sym e) own
-      | inr apart ↦ subst (λ x. IsAbove k x.status) (sym (alone u apart)) tt
-    ]
+alone_above m t k alone own u = grind arith
 
 -- or has begun
 pub alone_below : (m : Machine) (t k : ℕ) → IsAlone m t → t < k → (u : ℕ) → (m.txns u).begun ≡ true → u < k
-alone_below m t k alone below u has_begun =
-    elim (cases_eq u t) [
-      | inl e ↦ omega (arith, e, below)
-      | inr apart ↦ absurd (true≢false (sym has_begun ∙ ap (λ x. x.begun) (alone u apart)))
-    ]
+alone_below m t k alone below u has_begun = grind arith
 
 pub fresh_below : (k : ℕ) → IsAboveAll k fresh
 fresh_below k = (tt, λ u has_begun. absurd (true≢false (sym has_begun)), λ u. tt)
@@ -101,23 +90,7 @@ fresh_below k = (tt, λ u has_begun. absurd (true≢false (sym has_begun)), λ u
 -- the first two lines, and three
 pub starts_acting : (o : Op) (lines : List Line) (last : Machine) → Steps (acted (begun fresh 2) 2 o 3) lines last
     → Steps fresh (Begins 2 ∷ Acts 2 o 3 ∷ lines) last
-starts_acting o lines last rest =
-    let m : Machine = begun fresh 2 in
-    let alone : IsAlone m 2 = alone_with fresh 2 blank (λ u apart. refl) in (
-      m,
-      (fresh_below 2, refl),
-      (
-        acted m 2 o 3,
-        (
-          refl,
-          alone_free m 2 (changed_span o) alone,
-          omega arith,
-          (tt, alone_below m 2 3 alone (omega arith), alone_above m 2 3 alone tt),
-          refl,
-        ),
-        rest,
-      ),
-    )
+starts_acting o lines last rest = grind arith
 
 pub starts : (a b : Bytes) (lines : List Line) (last : Machine) → Steps (inserted (Insert a b)) lines last
     → Steps fresh (Begins 2 ∷ Acts 2 (Insert a b) 3 ∷ TellsAnswer 2 Inserted ∷ lines) last
@@ -132,26 +105,7 @@ all_left bound u (e ∷ h) apart own = (λ same. absurd (apart (sym same ∙ own
 
 pub crashes : (m : Machine) (bound : ℕ) (x : Txn) (fell : Bool) → IsAlone m 2 → AllByRecursion (λ e. e.txn ≡ 2) m.h
     → Survives m bound 2 (m.txns 2).status x fell → Step m Crashes (crashed m bound x fell)
-crashes m bound x fell alone own survives = (λ u. if u == 2 then fell else false, bound, each, refl)
-  where
-    each : (u : ℕ)
-        → Survives m bound u (m.txns u).status (if u == 2 then x else nobody) (if u == 2 then fell else false)
-    each u =
-        elim (cases_eq u 2) [
-          | inl e ↦ subst (λ (n : ℕ). Survives m bound n (m.txns n).status (if n == 2 then x else nobody)
-              (if n == 2 then fell else false)) (sym e) survives
-          | inr apart ↦ other apart (ap (λ y. y.status) (alone u apart))
-              (ap (λ (b : Bool). if b then x else nobody) (ne_eqb u 2 apart) ∙ sym (alone u apart))
-              (ap (λ (b : Bool). if b then fell else false) (ne_eqb u 2 apart))
-        ]
-      where
-        other : (u ≡ 2 → ⊥) → (m.txns u).status ≡ Gone → (if u == 2 then x else nobody) ≡ m.txns u
-            → (if u == 2 then fell else false) ≡ false
-            → Survives m bound u (m.txns u).status (if u == 2 then x else nobody) (if u == 2 then fell else false)
-        other apart is_gone same stays =
-            subst (λ s. Survives m bound u s (if u == 2 then x else nobody) (if u == 2 then fell else false))
-            (sym is_gone)
-            (inl (same, all_left bound u m.h apart own), stays)
+crashes m bound x fell alone own survives = grind (arith, cases_eq, ne_eqb, all_left)
 
 pub alone_crashed : (m : Machine) (bound : ℕ) (x : Txn) (fell : Bool) → IsAlone (crashed m bound x fell) 2
 alone_crashed m bound x fell u apart = ap (λ (b : Bool). if b then x else nobody) (ne_eqb u 2 apart)
@@ -159,15 +113,7 @@ alone_crashed m bound x fell u apart = ap (λ (b : Bool). if b then x else nobod
 -- transaction 2 alone may keep transaction 4 from a key
 pub second_holder : (m : Machine) → IsAlone m 2 → (s : Span) → AnyConflict s (m.txns 2).spans
     → IsHolder (begun m 4) 4 s 2
-second_holder m alone s conflicts = record {
-  other = λ e. omega (arith, e);
-  conflicts = conflicts;
-  least = λ u apart h. elim (cases_eq u 2) [
-    | inl e ↦ omega (arith, e)
-    | inr other ↦ absurd (subst (λ x. AnyConflict s x.spans)
-        (ap (λ (b : Bool). if b then blank else m.txns u) (ne_eqb u 4 apart) ∙ alone u other) h)
-  ];
-}
+second_holder m alone s conflicts = grind arith
 
 -- what must follow a line
 pub after_begins : (m : Machine) (t : ℕ) (lines : List Line) (last : Machine) → Steps m (Begins t ∷ lines) last
@@ -182,22 +128,13 @@ after_acts m t o k lines last h = subst (λ x. Steps x lines last) h.1.4 h.2
 pub after_told : (m : Machine) (o : Op) (k : ℕ) (a : Answer) (lines : List Line) (last : Machine)
     → HasStatus m 2 (Waiting k o)
     → Steps m (TellsAnswer 2 a ∷ lines) last → (a ≡ answer_in (plain m.h) o) × Steps (told m 2 o k a) lines last
-after_told m o k a lines last waits h =
-    let e : Waiting h.1.0 h.1.1 ≡ Waiting k o = sym h.1.2 ∙ waits in
-    let number : h.1.0 ≡ k = same_number h.1.0 k h.1.1 o e in
-    let op : h.1.1 ≡ o = same_op h.1.0 k h.1.1 o e in
-    let there : h.0 ≡ told m 2 o k a = h.1.4 ∙ ap (λ (j : ℕ). told m 2 h.1.1 j a) number
-    ∙ ap (λ (q : Op). told m 2 q k a) op in
-    (h.1.3 ∙ ap (answer_in (plain m.h)) op, subst (λ x. Steps x lines last) there h.2)
+after_told m o k a lines last waits h = grind arith
 
 -- what must follow the first two lines, and three
 pub after_acting : (o : Op) (lines : List Line) (last : Machine) → Steps fresh (Begins 2 ∷ Acts 2 o 3 ∷ lines) last
     → Steps (acted (begun fresh 2) 2 o 3) lines last
-after_acting o lines last h =
-    after_acts (begun fresh 2) 2 o 3 lines last (after_begins fresh 2 (Acts 2 o 3 ∷ lines) last h)
+after_acting o lines last h = grind arith
 
 pub after_insert : (o : Op) (lines : List Line) (last : Machine)
     → Steps fresh (Begins 2 ∷ Acts 2 o 3 ∷ TellsAnswer 2 Inserted ∷ lines) last → Steps (inserted o) lines last
-after_insert o lines last h =
-    (after_told (acted (begun fresh 2) 2 o 3) o 3 Inserted lines last refl
-    (after_acting o (TellsAnswer 2 Inserted ∷ lines) last h)).1
+after_insert o lines last h = grind arith

@@ -12,6 +12,7 @@ ghost use Rattle.node_sides.specs.tc_core.specs.Causes.{begin_refusal};
 ghost use Rattle.node_sides.specs.tc_core.specs.LowWater.{IsGreatestAnnounced};
 ghost use Rattle.node_sides.specs.node_laws.specs.Component.{LeavesBytes};
 ghost use Rattle.node_sides.specs.node_laws.specs.Halves.{node_of};
+ghost use Rattle.node_sides.specs.node_laws.specs.Failing.{AreToCome};
 ghost use Rattle.node_sides.specs.node_laws.specs.Forgetting.{without_messages};
 ghost use Rattle.node_sides.specs.node_laws.specs.Node.{fresh_node, joined, if_up};
 ghost use Rattle.node_sides.specs.node_laws.specs.Simulation.{NodeStandsFor};
@@ -151,6 +152,14 @@ impl<D: CrashLog, P: CrashPages> World<D, P> {
         ensures promised { Promises self.now }
     {
         let _ = &self.node;
+    }
+
+    /// A failure that was set is still to come: so no call of a device that was due to fail has succeeded.
+    pub fn to_come(&self)
+        ensures { AreToCome self.now }
+    {
+        self.node.tc.to_come();
+        self.node.dc.to_come();
     }
 
     /// There is a list machine that the node stands for: what `kept` promises of each holds of one.

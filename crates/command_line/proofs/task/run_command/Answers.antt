@@ -3,7 +3,7 @@ use Rattle.std.proofs.lemmas.Result.{IfOk-weaker}
 use Rattle.clap.specs.Simple.{app_of, with_rule}
 use Rattle.clap.specs.Walk.{rule_of}
 use Rattle.command_line.proofs.Adding.{local_with}
-use Rattle.command_line.specs.CommandLine.{IsLocal, counting_refusals, creating, interacting, plain_run}
+use Rattle.command_line.specs.CommandLine.{IsLocal, counting_refusals, creating, interacting, keeping_log, plain_run}
 use Rattle.command_line.proofs.task.run_command.Goals as goal
 
 pub returns-clause-app : goal.returns-clause-app
@@ -18,7 +18,11 @@ returns-clause-app c =
     c.in_ok-arg-2.ensures.shape local_2 ∙ ap₂ with_rule one rule_2 in
     let local_3 : c.help-3.result.global ≡ false = search rules in
     let rule_3 : rule_of c.help-3.result ≡ interacting = search rules in
-    IfOk-weaker c.arg-3.result _ _ (λ made added. added.shape local_3 ∙ ap₂ with_rule two rule_3) c.arg-3.ensures
+    let three : app_of c.in_ok-arg-3.field-0 ≡ with_rule (with_rule (with_rule plain_run creating) counting_refusals) interacting =
+    c.in_ok-arg-3.ensures.shape local_3 ∙ ap₂ with_rule two rule_3 in
+    let local_4 : c.help-4.result.global ≡ false = search rules in
+    let rule_4 : rule_of c.help-4.result ≡ keeping_log = search rules in
+    IfOk-weaker c.arg-4.result _ _ (λ made added. added.shape local_4 ∙ ap₂ with_rule three rule_4) c.arg-4.ensures
 
 pub returns-clause-local : goal.returns-clause-local
 returns-clause-local c =
@@ -26,4 +30,6 @@ returns-clause-local c =
     local_with _ _ c.in_ok-arg.field-0 c.in_ok-arg.ensures c.in_ok-command.ensures.local (search rules) in
     let two : IsLocal c.in_ok-arg-2.field-0 =
     local_with _ _ c.in_ok-arg-2.field-0 c.in_ok-arg-2.ensures one (search rules) in
-    IfOk-weaker c.arg-3.result _ _ (λ made added. local_with _ _ made added two (search rules)) c.arg-3.ensures
+    let three : IsLocal c.in_ok-arg-3.field-0 =
+    local_with _ _ c.in_ok-arg-3.field-0 c.in_ok-arg-3.ensures two (search rules) in
+    IfOk-weaker c.arg-4.result _ _ (λ made added. local_with _ _ made added three (search rules)) c.arg-4.ensures

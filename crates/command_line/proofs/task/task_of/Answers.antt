@@ -67,46 +67,71 @@ returns-in-Some-subcommand_matches-6-clause-asks c =
     (subcommand_rows_of c.args.matches.now) (search rules) (search rules)
     (c.get_str-in-Some-subcommand_matches-6.ensures ∙ first_value-rows found (codes "store"))
 
+pub returns-in-Some-subcommand_matches-8-clause-asks : goal.returns-in-Some-subcommand_matches-8-clause-asks
+returns-in-Some-subcommand_matches-8-clause-asks c =
+    let found : Found = found_of c.in-Some-subcommand_matches-8.asked.now in
+    names_store (λ s. AsksFor s (task.Dc c.get_str-in-Some-subcommand_matches-8.result)) (codes "dc") c.get_str-in-Some-subcommand_matches-8.result
+    (rows_of found) (λ s its named. named) (subcommand_rows_of c.args.matches.now) (search rules) (search rules)
+    (c.get_str-in-Some-subcommand_matches-8.ensures ∙ first_value-rows found (codes "store"))
+
+pub returns-in-Some-subcommand_matches-9-clause-asks : goal.returns-in-Some-subcommand_matches-9-clause-asks
+returns-in-Some-subcommand_matches-9-clause-asks c =
+    let found : Found = found_of c.in-Some-subcommand_matches-9.asked.now in
+    let script : IsGivenText (rows_of found) (codes "script") c.get_str-in-Some-subcommand_matches-9-2.result =
+    c.get_str-in-Some-subcommand_matches-9-2.ensures ∙ first_value-rows found (codes "script") in
+    let Is : List Row → Type 0 = λ r. IsGivenText r (codes "script") c.get_str-in-Some-subcommand_matches-9-2.result in
+    names_store
+    (λ s. AsksFor s (task.Tc c.get_str-in-Some-subcommand_matches-9.result c.get_str-in-Some-subcommand_matches-9-2.result))
+    (codes "tc") c.get_str-in-Some-subcommand_matches-9.result (rows_of found)
+    (λ s its named. (named, subst Is (sym its) script)) (subcommand_rows_of c.args.matches.now) (search rules)
+    (search rules) (c.get_str-in-Some-subcommand_matches-9.ensures ∙ first_value-rows found (codes "store"))
+
 pub returns-clause-asks : goal.returns-clause-asks
 returns-clause-asks c =
-    let found : Found = found_of c.in-Some-subcommand_matches-8.asked.now in
+    let found : Found = found_of c.in-Some-subcommand_matches-10.asked.now in
     let of : (flag : Text) → one_text found flag ≡ one_of flag (rows_of found) = λ flag. one_text-rows found flag in
-    let continue : IsSet (rows_of found) (codes "continue") c.get_flag-in-Some-subcommand_matches-8.result = record {
-      given = λ e. c.get_flag-in-Some-subcommand_matches-8.ensures.value (of (codes "continue") ∙ e);
-      otherwise = λ e. c.get_flag-in-Some-subcommand_matches-8.ensures.other (of (codes "continue") ∙ e);
-      absent = λ e. c.get_flag-in-Some-subcommand_matches-8.ensures.none (of (codes "continue") ∙ e);
+    let continue : IsSet (rows_of found) (codes "continue") c.get_flag-in-Some-subcommand_matches-10.result = record {
+      given = λ e. c.get_flag-in-Some-subcommand_matches-10.ensures.value (of (codes "continue") ∙ e);
+      otherwise = λ e. c.get_flag-in-Some-subcommand_matches-10.ensures.other (of (codes "continue") ∙ e);
+      absent = λ e. c.get_flag-in-Some-subcommand_matches-10.ensures.none (of (codes "continue") ∙ e);
     } in
-    let read_only : IsSet (rows_of found) (codes "read-only") c.get_flag-in-Some-subcommand_matches-8-2.result = record {
-      given = λ e. c.get_flag-in-Some-subcommand_matches-8-2.ensures.value (of (codes "read-only") ∙ e);
-      otherwise = λ e. c.get_flag-in-Some-subcommand_matches-8-2.ensures.other (of (codes "read-only") ∙ e);
-      absent = λ e. c.get_flag-in-Some-subcommand_matches-8-2.ensures.none (of (codes "read-only") ∙ e);
+    let read_only : IsSet (rows_of found) (codes "read-only") c.get_flag-in-Some-subcommand_matches-10-2.result = record {
+      given = λ e. c.get_flag-in-Some-subcommand_matches-10-2.ensures.value (of (codes "read-only") ∙ e);
+      otherwise = λ e. c.get_flag-in-Some-subcommand_matches-10-2.ensures.other (of (codes "read-only") ∙ e);
+      absent = λ e. c.get_flag-in-Some-subcommand_matches-10-2.ensures.none (of (codes "read-only") ∙ e);
     } in
-    let create : IsSet (rows_of found) (codes "create") c.get_flag-in-Some-subcommand_matches-8-3.result = record {
-      given = λ e. c.get_flag-in-Some-subcommand_matches-8-3.ensures.value (of (codes "create") ∙ e);
-      otherwise = λ e. c.get_flag-in-Some-subcommand_matches-8-3.ensures.other (of (codes "create") ∙ e);
-      absent = λ e. c.get_flag-in-Some-subcommand_matches-8-3.ensures.none (of (codes "create") ∙ e);
+    let create : IsSet (rows_of found) (codes "create") c.get_flag-in-Some-subcommand_matches-10-3.result = record {
+      given = λ e. c.get_flag-in-Some-subcommand_matches-10-3.ensures.value (of (codes "create") ∙ e);
+      otherwise = λ e. c.get_flag-in-Some-subcommand_matches-10-3.ensures.other (of (codes "create") ∙ e);
+      absent = λ e. c.get_flag-in-Some-subcommand_matches-10-3.ensures.none (of (codes "create") ∙ e);
     } in
-    let strict : IsSet (rows_of found) (codes "strict") c.get_flag-in-Some-subcommand_matches-8-4.result = record {
-      given = λ e. c.get_flag-in-Some-subcommand_matches-8-4.ensures.value (of (codes "strict") ∙ e);
-      otherwise = λ e. c.get_flag-in-Some-subcommand_matches-8-4.ensures.other (of (codes "strict") ∙ e);
-      absent = λ e. c.get_flag-in-Some-subcommand_matches-8-4.ensures.none (of (codes "strict") ∙ e);
+    let strict : IsSet (rows_of found) (codes "strict") c.get_flag-in-Some-subcommand_matches-10-4.result = record {
+      given = λ e. c.get_flag-in-Some-subcommand_matches-10-4.ensures.value (of (codes "strict") ∙ e);
+      otherwise = λ e. c.get_flag-in-Some-subcommand_matches-10-4.ensures.other (of (codes "strict") ∙ e);
+      absent = λ e. c.get_flag-in-Some-subcommand_matches-10-4.ensures.none (of (codes "strict") ∙ e);
     } in
-    let interactive : IsSet (rows_of found) (codes "interactive") c.get_flag-in-Some-subcommand_matches-8-5.result = record {
-      given = λ e. c.get_flag-in-Some-subcommand_matches-8-5.ensures.value (of (codes "interactive") ∙ e);
-      otherwise = λ e. c.get_flag-in-Some-subcommand_matches-8-5.ensures.other (of (codes "interactive") ∙ e);
-      absent = λ e. c.get_flag-in-Some-subcommand_matches-8-5.ensures.none (of (codes "interactive") ∙ e);
+    let interactive : IsSet (rows_of found) (codes "interactive") c.get_flag-in-Some-subcommand_matches-10-5.result = record {
+      given = λ e. c.get_flag-in-Some-subcommand_matches-10-5.ensures.value (of (codes "interactive") ∙ e);
+      otherwise = λ e. c.get_flag-in-Some-subcommand_matches-10-5.ensures.other (of (codes "interactive") ∙ e);
+      absent = λ e. c.get_flag-in-Some-subcommand_matches-10-5.ensures.none (of (codes "interactive") ∙ e);
+    } in
+    let keep_log : IsSet (rows_of found) (codes "keep-log") c.get_flag-in-Some-subcommand_matches-10-6.result = record {
+      given = λ e. c.get_flag-in-Some-subcommand_matches-10-6.ensures.value (of (codes "keep-log") ∙ e);
+      otherwise = λ e. c.get_flag-in-Some-subcommand_matches-10-6.ensures.other (of (codes "keep-log") ∙ e);
+      absent = λ e. c.get_flag-in-Some-subcommand_matches-10-6.ensures.none (of (codes "keep-log") ∙ e);
     } in
     let there = λ (flag : Text) (set : Bool) (s : Text × List Row) (its : s.1 ≡ rows_of found). set_there flag set (rows_of found) s.1 its in
     names_store
-    (λ s. AsksFor s (task.Run c.get_flag-in-Some-subcommand_matches-8.result c.get_str-in-Some-subcommand_matches-8.result c.get_flag-in-Some-subcommand_matches-8-2.result c.get_flag-in-Some-subcommand_matches-8-3.result c.get_flag-in-Some-subcommand_matches-8-4.result c.get_flag-in-Some-subcommand_matches-8-5.result))
-    (codes "run") c.get_str-in-Some-subcommand_matches-8.result (rows_of found)
+    (λ s. AsksFor s (task.Run c.get_flag-in-Some-subcommand_matches-10.result c.get_str-in-Some-subcommand_matches-10.result c.get_flag-in-Some-subcommand_matches-10-2.result c.get_flag-in-Some-subcommand_matches-10-3.result c.get_flag-in-Some-subcommand_matches-10-4.result c.get_flag-in-Some-subcommand_matches-10-5.result c.get_flag-in-Some-subcommand_matches-10-6.result))
+    (codes "run") c.get_str-in-Some-subcommand_matches-10.result (rows_of found)
     (λ s its named. (
       named,
-      there (codes "continue") c.get_flag-in-Some-subcommand_matches-8.result s its continue,
-      there (codes "read-only") c.get_flag-in-Some-subcommand_matches-8-2.result s its read_only,
-      there (codes "create") c.get_flag-in-Some-subcommand_matches-8-3.result s its create,
-      there (codes "strict") c.get_flag-in-Some-subcommand_matches-8-4.result s its strict,
-      there (codes "interactive") c.get_flag-in-Some-subcommand_matches-8-5.result s its interactive,
+      there (codes "continue") c.get_flag-in-Some-subcommand_matches-10.result s its continue,
+      there (codes "read-only") c.get_flag-in-Some-subcommand_matches-10-2.result s its read_only,
+      there (codes "create") c.get_flag-in-Some-subcommand_matches-10-3.result s its create,
+      there (codes "strict") c.get_flag-in-Some-subcommand_matches-10-4.result s its strict,
+      there (codes "interactive") c.get_flag-in-Some-subcommand_matches-10-5.result s its interactive,
+      there (codes "keep-log") c.get_flag-in-Some-subcommand_matches-10-6.result s its keep_log,
     ))
     (subcommand_rows_of c.args.matches.now) (search rules) (search rules)
-    (c.get_str-in-Some-subcommand_matches-8.ensures ∙ first_value-rows found (codes "store"))
+    (c.get_str-in-Some-subcommand_matches-10.ensures ∙ first_value-rows found (codes "store"))

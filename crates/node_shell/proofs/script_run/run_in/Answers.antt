@@ -20,7 +20,8 @@ returns g c =
     let all : IsAllOf given script = search rules in
     let ok : first_fault script ≡ None =
     ap first_fault (sym c.as_slice.ensures.value) ∙ sym c.first_fault.ensures ∙ c.in-None.is in
-    ran c.args.continues c.args.shell.now.world labels given old new script c.run_from.result c.kept.ensures.kept
+    ran c.args.continues c.args.shell.now.world labels given old new script c.run_from.result
+    (record { kept = c.kept.ensures.kept; stood = c.stood.ensures })
     all ok
     (subst (λ (s : List ℕ). WritesRun c.args.continues (commands_of (lines_from s)) c.args.shell.now.world labels old new
     c.run_from.result) c.as_slice-in-None.ensures.value c.run_from.ensures)

@@ -1,9 +1,6 @@
+use Rattle.std.proofs.Common.{arith}
 use Rattle.worked_runs.proofs.Rows.{rolled_back_is_run, never_rolling_back_is_none, number_twice_is_none}
 use Rattle.worked_runs.proofs.runs.rolled_back_run.Goals as goal
 
 pub returns : goal.returns
-returns c = record {
-  is_run = rolled_back_is_run;
-  is_none = never_rolling_back_is_none;
-  no_number_twice = number_twice_is_none;
-}
+returns c = grind (arith, rolled_back_is_run, never_rolling_back_is_none, number_twice_is_none)

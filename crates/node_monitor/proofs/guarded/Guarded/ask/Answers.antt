@@ -1,4 +1,4 @@
-use Rattle.std.proofs.Common.{◌≡◌, ℕ, List, Option, Some, None, ◌∙◌, ap, sym, subst}
+use Rattle.std.proofs.Common.{◌≡◌, List, Some, ◌∙◌, ap, sym, subst}
 use Rattle.pool_journal.specs.node_laws.specs.declared.event.Event.{Event}
 use Rattle.pool_journal.specs.Sessions.{calls, part_of}
 use Rattle.pool_journal.specs.declared.step.Step.{Step}

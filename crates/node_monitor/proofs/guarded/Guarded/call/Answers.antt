@@ -1,8 +1,8 @@
-use Rattle.std.proofs.Common.{◌≡◌, ◌<◌, ◌++◌, ◌∷◌, [], ◌∙◌, List, Some, ap, sym, subst, map, set, length, slice_get, refl, arith, inl}
+use Rattle.std.proofs.Common.{◌≡◌, ◌<◌, ◌∙◌, List, Some, ap, sym, subst, map, set, length, slice_get, refl, arith}
 use Rattle.std.proofs.lemmas.List.{length-map, length-set}
 use Rattle.std.proofs.lemmas.Option.{slice_get_read}
 use Rattle.std.specs.List.{AllByRecursion}
-use Rattle.tie.specs.Tied.{Tied, tied_at}
+use Rattle.tie.specs.Tied.{Tied}
 use Rattle.pool_journal.specs.declared.step.Step.{Step}
 use Rattle.pool_journal.specs.node_laws.specs.Node.{NodeView}
 use Rattle.pool_journal.specs.node_laws.specs.Stepping.{IsStep}

@@ -1,4 +1,4 @@
-use Rattle.std.proofs.Common.{◌≡◌, ◌+◌, ◌<◌, ◌∙◌, ℕ, false, List, None, length, refl, ap, sym, subst, arith}
+use Rattle.std.proofs.Common.{◌≡◌, ◌+◌, ◌<◌, ◌∙◌, false, List, None, length, refl, ap, sym, subst, arith}
 use Rattle.std.proofs.lemmas.List.{length-set}
 use Rattle.std.proofs.lemmas.Option.{slice_get_read}
 use Rattle.boxcar.specs.Table.{Shelves}
@@ -6,7 +6,7 @@ use Rattle.tie.specs.Tied.{Tied, tied_at}
 use Rattle.pool_journal.specs.Sessions.{line_of, part_of}
 use Rattle.pool_journal.specs.declared.step.Step.{Step}
 use Rattle.node_monitor.specs.Callers.{CallerView, IsMade, IsNews, is_busy}
-use Rattle.node_monitor.specs.Slots.{Shown, Slot, seen}
+use Rattle.node_monitor.specs.Slots.{Shown, seen}
 use Rattle.node_monitor.specs.declared.entry.Entry.{Entry}
 use Rattle.node_monitor.specs.declared.place.Place.{Place}
 use Rattle.node_monitor.proofs.Calls.{busy_is, idle_is, news_amid, news_resting, resting, same_news}

@@ -1,13 +1,17 @@
-use Rattle.std.proofs.Common.{◌∙◌, ap, sym, subst}
+use Rattle.std.proofs.Common.{◌≡◌, ◌∙◌, ℕ, false, List, Some, ap, slice_get, sym, subst}
 use Rattle.pool_journal.specs.node_laws.specs.Forgetting.{without_messages}
 use Rattle.pool_journal.specs.node_laws.specs.Node.{NodeView}
 use Rattle.pool_journal.specs.Steps.{node_at}
+use Rattle.node_monitor.specs.Found.{Found}
+use Rattle.node_monitor.specs.Quiet.{AreQuiet, waits}
+use Rattle.node_monitor.specs.declared.place.Place.{Place}
 use Rattle.node_monitor.specs.Running.{PassesFrom}
+use Rattle.node_monitor.proofs.Quiet.{all_quiet}
 use Rattle.node_monitor.proofs.Running.{passes_forgotten}
 use Rattle.node_monitor.proofs.guarded.Guarded.forget.Goals as goal
 
-pub invariant_of-self : goal.invariant_of-self
-invariant_of-self g c =
+pub invariant_of-self-2 : goal.invariant_of-self-2
+invariant_of-self-2 g c =
     let J = g.J.Naming in
     let k = c.self.invariant in
     let es = c.self.inside.steps.items in
@@ -20,3 +24,14 @@ invariant_of-self g c =
       count = k.count;
       owned = k.owned;
     }
+
+pub returns-clause-quiet : goal.returns-clause-quiet
+returns-clause-quiet g c is =
+    let J = g.J.Naming in
+    let k = c.self.invariant in
+    let ps = c.self.inside.places.items in
+    let none =
+    subst (λ (xs : List Place). (n : ℕ) (p : Place) → slice_get xs n ≡ Some p → waits p ≡ false) c.as_slice.ensures.value
+    (c.are_quiet.ensures c.if-not-are_quiet.false) in
+    subst (λ (f : Found). AreQuiet J.sessions f.steps) c.self.view_is
+    (all_quiet J.entries J.names J.sessions c.self.inside.steps.items ps k.places_are k.count none)

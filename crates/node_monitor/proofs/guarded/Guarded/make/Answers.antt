@@ -13,7 +13,7 @@ returns-clause-calls g c =
     let e = c.args.event.now in
     let o = c.call.new.out in
     let mid = c.call.new.self.steps in
-    let now = c.carry_on.new.self.steps in
+    let now = c.go_on.new.self.steps in
     let r = c.finish.result in
     let number = ap (λ (v : CallerView). v.number) c.call.ensures.caller in
     let busy = ap (λ (v : CallerView). v.busy) c.call.ensures.caller in
@@ -23,8 +23,8 @@ returns-clause-calls g c =
     (c.finish.ensures.amid busy mid (subst (λ (s : ℕ). IsMade s mid now) (sym number) made)) in
     subst (λ (xs : List Step). CallsWith e o (part_of n before) r (part_of n xs)) (sym same)
     (calls_with n before c.args.self.now.steps mid now e o r c.requires.sees c.requires.closed c.call.ensures.steps
-    c.carry_on.ensures.on (λ is. c.carry_on.ensures.done (c.of.ensures is)) found)
+    c.go_on.ensures.on (λ is. c.go_on.ensures.done (c.of.ensures is)) found)
 
 pub returns-clause-entered : goal.returns-clause-entered
 returns-clause-entered g c is =
-    ap (λ (f : Found). f.steps) c.finish.ensures.same ∙ c.carry_on.ensures.done (c.of.ensures is) ∙ c.call.ensures.steps
+    ap (λ (f : Found). f.steps) c.finish.ensures.same ∙ c.go_on.ensures.done (c.of.ensures is) ∙ c.call.ensures.steps

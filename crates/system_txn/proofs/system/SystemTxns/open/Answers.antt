@@ -8,16 +8,12 @@ use Rattle.system_txn.specs.Uses.{log_calls}
 use Rattle.system_txn.proofs.Found.{IsOpened, open_kept, open_recovers, unheld_stops}
 use Rattle.system_txn.proofs.system.SystemTxns.open.Goals as goal
 
-pub invariant_of-result : goal.invariant_of-result
-invariant_of-result g c =
+pub invariant_of-system : goal.invariant_of-system
+invariant_of-system g c =
     let found = c.in-Ok.ensures.found in
     let v : SystemView =
-    seen {D = g.row.D.Denot} g.L.LeafSet.leaves g.P.PageDevice.pages g.P.PageDevice.usage (record {
-      leaves = c.in-Ok-from_leaves.leaves;
-      log = c.reopened-log.result;
-      pages = c.find.new.pages;
-      image = c.new-image.result;
-    }) in
+    seen (g.L.LeafSet.leaves c.in-Ok-from_leaves.leaves) c.reopened-log.result
+    (g.P.PageDevice.pages c.find.new.pages) (g.P.PageDevice.usage c.find.new.pages) in
     let left = c.in_default.ensures.cut
     ∙ ap (λ (b : List ℕ). take c.in-Ok.found.0.end b) c.in-Ok.ensures.log_left ∙ found.left_is in
     let log = c.reopened-log.ensures found.log found.held.records left in
@@ -33,12 +29,8 @@ pub returns-clause-recovers : goal.returns-clause-recovers
 returns-clause-recovers g c =
     let found = c.in-Ok.ensures.found in
     let v : SystemView =
-    seen {D = g.row.D.Denot} g.L.LeafSet.leaves g.P.PageDevice.pages g.P.PageDevice.usage (record {
-      leaves = c.in-Ok-from_leaves.leaves;
-      log = c.reopened-log.result;
-      pages = c.find.new.pages;
-      image = c.new-image.result;
-    }) in
+    seen (g.L.LeafSet.leaves c.in-Ok-from_leaves.leaves) c.reopened-log.result
+    (g.P.PageDevice.pages c.find.new.pages) (g.P.PageDevice.usage c.find.new.pages) in
     let left = c.in_default.ensures.cut
     ∙ ap (λ (b : List ℕ). take c.in-Ok.found.0.end b) c.in-Ok.ensures.log_left ∙ found.left_is in
     let log = c.reopened-log.ensures found.log found.held.records left in

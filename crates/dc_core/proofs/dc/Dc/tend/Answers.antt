@@ -1,0 +1,8 @@
+use Rattle.dc_core.specs.Seen.{seen}
+use Rattle.dc_core.proofs.KeepsSystems.{tend_keeps}
+use Rattle.dc_core.proofs.dc.Dc.tend.Goals as goal
+
+pub invariant_of-self : goal.invariant_of-self
+invariant_of-self g c =
+    tend_keeps (seen c.self.inside) c.may_merge-merges.result c.tend-given.result c.tend-given.new.self c.self.invariant
+    c.kept.ensures c.tend-given.ensures.gives

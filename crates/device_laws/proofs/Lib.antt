@@ -1,4 +1,0 @@
-pub mod Causes
-pub mod TcCalls
-pub mod DcCalls
-pub mod Steps

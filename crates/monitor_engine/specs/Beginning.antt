@@ -1,0 +1,14 @@
+-- How a session's transaction begins.
+use Rattle.std.specs.Prelude.{◌≡◌, ℕ, false, List, [], ◌∷◌, ◌++◌, Some, None}
+use Rattle.node_monitor.specs.Running.{made}
+use Rattle.node_monitor.specs.pool_journal.specs.Sessions.{is_pending, part_of}
+use Rattle.node_monitor.specs.pool_journal.specs.declared.step.Step.{Step}
+use Rattle.node_monitor.specs.pool_journal.specs.node_laws.specs.declared.event.Event.TheVariants as event
+use Rattle.node_monitor.specs.pool_journal.specs.node_laws.specs.declared.event.Out.{Out}
+
+-- a session's Begin that came to this was made where no transaction of the session was alive; where nothing more is told
+-- of it, it is the last step that the session has seen
+pub record BeginsAlone (session : ℕ) (o : Out) (steps : List Step) : Type 0 where
+  pub before : List Step
+  pub none : (part_of session before).live ≡ None
+  pub last : is_pending o ≡ false → steps ≡ before ++ made (Some session) event.Begin o ∷ []

@@ -1,0 +1,5 @@
+pub mod Answering
+pub mod Ending
+pub mod Beginning
+-- what a crate above names of those below
+pub use Rattle.node_monitor as node_monitor

@@ -1,0 +1,113 @@
+//! A session's calls, each in holds of the lock.
+ghost use Rattle.std.specs.Prelude.{◌≡◌, false, None, Some, IfSome, IfNone};
+ghost use Rattle.node_monitor.specs.Callers.{CallsWith, Follows, IsNews};
+ghost use Rattle.node_monitor.specs.pool_journal.specs.Sessions.{IsClosed, Part, is_pending, line_of};
+ghost use Rattle.node_monitor.specs.pool_journal.specs.node_laws.specs.declared.event.Event.TheVariants as event;
+ghost use Rattle.node_monitor.specs.session_answers.specs.Answers.{IsSecond, IsUnasked};
+ghost use Rattle.node_monitor.specs.session_answers.specs.Asking.{event_of};
+ghost use Rattle.monitor_engine.specs.Beginning.{BeginsAlone};
+ghost use Rattle.monitor_engine.specs.Ending.{Finishes, part_in};
+
+use crate::beginning::begin_alone;
+use crate::ended::{Ended, ended_by};
+use crate::resting::nap;
+use crate::shared::Shared;
+use node_monitor::pool_journal::Naming;
+use node_monitor::session_answers::Ask;
+use node_monitor::{Caller, Kind, News, Outs};
+use stable::{CrashLog, CrashPages};
+use std::sync::Wait;
+
+impl<J: Naming, D: CrashLog, P: CrashPages> Shared<J, D, P> {
+    /// One hold: a call of the session's transaction, if one is alive, as far as the node lets it come.
+    pub fn ask_once<R: Wait>(
+        &self,
+        rt: &R,
+        caller: &mut Caller<J>,
+        ask: Ask,
+        outs: &mut Outs,
+    ) -> Option<(u64, News)>
+        requires rest { caller.old.busy ≡ false }
+        requires closed { IsClosed (part_in caller.old) }
+        ensures number { caller.new.number ≡ caller.old.number }
+        ensures rest { caller.new.busy ≡ false }
+        ensures none { IfNone result (IsUnasked (part_in caller.old) (part_in caller.new)) }
+        ensures calls { IfSome result (λ made. ((part_in caller.old).live ≡ Some made.0)
+            × CallsWith (event_of made.0 ask) outs.new.call (part_in caller.old) made.1 (part_in caller.new)) }
+    {
+        self.hold(rt).ask(rt, self.entries.row(), caller, ask, outs)
+    }
+
+    /// One hold: the call that begins a transaction, unless one is alive.
+    pub fn begin_once<R: Wait>(
+        &self,
+        rt: &R,
+        caller: &mut Caller<J>,
+        outs: &mut Outs,
+    ) -> Option<News>
+        requires rest { caller.old.busy ≡ false }
+        requires closed { IsClosed (part_in caller.old) }
+        ensures number { caller.new.number ≡ caller.old.number }
+        ensures rest { caller.new.busy ≡ false }
+        ensures none { IfNone result (IsSecond (part_in caller.old) (part_in caller.new)) }
+        ensures closed { IfNone result (IsClosed (part_in caller.new)) }
+        ensures alone { IfSome result (λ news. BeginsAlone caller.old.number outs.new.call caller.new.steps) }
+        ensures calls { IfSome result (λ news.
+            CallsWith event.Begin outs.new.call (part_in caller.old) news (part_in caller.new)) }
+    {
+        let row = self.entries.row();
+        begin_alone(rt, &mut *self.hold(rt), row, caller, &mut outs.call)
+    }
+
+    /// One hold: a call of which nothing was told yet goes on, as far as the node lets it come.
+    pub fn resume_once<R: Wait>(
+        &self,
+        rt: &R,
+        caller: &mut Caller<J>,
+        txn: u64,
+        outs: &mut Outs,
+    ) -> News
+        requires rest { caller.old.busy ≡ false }
+        requires untold { line_of (part_in caller.old).latest ≡ None }
+        ensures number { caller.new.number ≡ caller.old.number }
+        ensures rest { caller.new.busy ≡ false }
+        ensures news { IsNews (part_in caller.old) (part_in caller.new) result }
+        ensures call { outs.new.call ≡ outs.old.call }
+    {
+        let kind = Kind::of(&outs.call);
+        self.hold(rt)
+            .resume(rt, self.entries.row(), caller, txn, kind, outs)
+    }
+
+    /// Goes on until the session's latest call has ended. Where the node lets it come no further its thread stays away
+    /// from the lock for a while.
+    #[tactic(auto, using(crate::proofs::Ending::finishes, crate::proofs::Ending::follows_on, crate::proofs::Ending::untold_still))]
+    pub fn carry_on<R: Wait>(
+        &self,
+        rt: &R,
+        caller: &mut Caller<J>,
+        txn: u64,
+        outs: &mut Outs,
+        first: News,
+    ) -> Ended
+        requires rest { caller.old.busy ≡ false }
+        requires made { (mid : Part) × (line_of mid.latest ≡ None)
+            × Follows outs.old.call mid first (part_in caller.old) }
+        ensures number { caller.new.number ≡ caller.old.number }
+        ensures rest { caller.new.busy ≡ false }
+        ensures call { outs.new.call ≡ outs.old.call }
+        ensures same { is_pending outs.old.call ≡ false → caller.new ≡ caller.old }
+        ensures ends { (mid : Part) → Follows outs.old.call mid first (part_in caller.old)
+            → Finishes outs.old.call mid result (part_in caller.new) }
+    {
+        let mut news = first;
+        for _ in rt.forever() {
+            if let Some(ended) = ended_by(&outs.call, news) {
+                return ended;
+            }
+            nap(rt);
+            news = self.resume_once(rt, caller, txn, outs);
+        }
+        unreachable!()
+    }
+}

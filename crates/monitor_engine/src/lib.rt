@@ -1,0 +1,22 @@
+//! Calls of a node's clients on threads, over one lock.
+//!
+//! Knows: how a session's call is made and carried on in holds of the lock, how it ended, and what that answers.
+//! Must not know: how either half of the node keeps its state, or by which steps a call is carried on.
+//! Promises the next crate: a call that was made is one more of the session's list, with what was told of it.
+#![tactic(auto)]
+
+mod answers;
+mod beginning;
+mod calls;
+mod ended;
+mod resting;
+mod shared;
+mod sort;
+
+pub use answers::{bar, begun, saved, told};
+pub use ended::{Ended, Unfinished, left_by};
+pub use shared::Shared;
+pub use sort::Sort;
+
+// What a crate above names of those below.
+pub use node_monitor;

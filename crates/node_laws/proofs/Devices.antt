@@ -1,0 +1,5 @@
+pub mod Causes
+pub mod TcCalls
+pub mod DcCalls
+pub mod Steps
+pub mod Refusals

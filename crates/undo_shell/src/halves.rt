@@ -1,0 +1,179 @@
+//! One half of a node in this process, whose other half is elsewhere.
+ghost use Rattle.std.specs.Prelude.{◌≡◌, []};
+
+use crate::stored::{print_failure, print_faulty, print_unopened, print_unread, print_wanting};
+use file_devices::{FileLog, NoPages, open_store};
+use halves_apart::{Dc, Player, Served, Stop, Wire, open_data, open_player, serve};
+use node_shell::{DONE, FAILED, FAULT, first_fault, print_refusal, print_table};
+use node_store::Cause;
+use record_key::Refusal;
+use std::fs::{File, Files};
+use std::io::{Read, Write};
+use std::{fs, io, str};
+
+/// A data component that keeps no page.
+type Data = Dc<FileLog, NoPages>;
+
+/// Standard error, as a writer of text.
+#[derive(Drop)]
+struct ErrorText<'a, R> {
+    to: &'a R,
+}
+
+impl<R: Eprint> Write for ErrorText<'_, R> {
+    fn write(&mut self, bytes: &[u8]) -> io::Result<usize> {
+        match str::from_utf8(bytes) {
+            Ok(text) => eprint!(self.to; "{text}")?,
+            Err(_) => return Err(io::ErrorKind::InvalidData.into()),
+        }
+        Ok(bytes.len())
+    }
+
+    fn flush(&mut self) -> io::Result<()> {
+        Ok(())
+    }
+}
+
+/// Serves requests until no more come, with the log of leaves in the store of this folder or in memory. Then it tells on
+/// standard error what became of them, and which records there are.
+pub fn serve_requests<R>(rt: &R, folder: Option<&str>) -> u8
+where
+    R: Input + Print + Eprint + AllocGlobal + Files<File = File> + Copy,
+{
+    let Some(folder) = folder else {
+        return serve_on(rt, "memory", FileLog::volatile(rt.alloc()));
+    };
+    match open_store(rt, folder) {
+        Ok(log) => {
+            let failure = log.failure();
+            let status = serve_on(rt, folder, log);
+            print_failure(rt, folder, failure, status)
+        }
+        Err(error) => print_unopened(rt, folder, &error),
+    }
+}
+
+fn serve_on<R>(rt: &R, folder: &str, log: FileLog) -> u8
+where
+    R: Input + Print + Eprint + AllocGlobal + Files<File = File>,
+    requires { log.pending ≡ [] }
+{
+    match open_data(rt.alloc(), log, NoPages::new()) {
+        Ok(mut data) => serve_streams(rt, &mut data),
+        Err(refusal) => print_unread(rt, folder, Cause::Refused(refusal)),
+    }
+}
+
+fn serve_streams<R>(rt: &R, data: &mut Data) -> u8
+where
+    R: Input + Print + Eprint + AllocGlobal,
+{
+    match serve(rt.alloc(), data, &mut rt.reader(), &mut io::writer(rt)) {
+        Ok(served) => tell_served(rt, served, data),
+        Err(_) => FAILED,
+    }
+}
+
+fn tell_served<R: Eprint>(rt: &R, served: Served, data: &Data) -> u8 {
+    let Served { done, refused, bad } = served;
+    let Ok(rows) = data.rows() else {
+        return FAILED;
+    };
+    match eprintln!(rt; "done {done} refused {refused} bad {bad}") {
+        Ok(()) => {}
+        Err(_) => return FAILED,
+    }
+    match print_table(&mut ErrorText { to: rt }, rows.as_slice()) {
+        Ok(()) => DONE,
+        Err(_) => FAILED,
+    }
+}
+
+/// Plays the script of a file on the store in this folder, and tells on standard error what its lines come to.
+pub fn play_script<R>(rt: &R, folder: Option<&str>, script: Option<&str>) -> u8
+where
+    R: Input + Print + Eprint + AllocGlobal + Files<File = File> + Copy,
+{
+    let Some(folder) = folder else {
+        return print_wanting(rt, "tc");
+    };
+    let Some(file) = script else {
+        return print_faulty(rt, "tc wants a script: --script FILE");
+    };
+    match read_file(rt, file) {
+        Ok(script) => play_checked(rt, folder, script.as_slice()),
+        Err(_) => print_faulty(rt, "the script cannot be read"),
+    }
+}
+
+fn read_file<R: AllocGlobal + Files<File = File>>(rt: &R, file: &str) -> io::Result<Vec<u8>> {
+    let mut script = Vec::new(rt.alloc());
+    fs::open(rt, file)?.read_to_end(&mut script)?;
+    Ok(script)
+}
+
+fn play_checked<R>(rt: &R, folder: &str, script: &[u8]) -> u8
+where
+    R: Input + Print + Eprint + AllocGlobal + Files<File = File> + Copy,
+{
+    if let Some(line) = first_fault(script) {
+        let _ = print_refusal(&mut ErrorText { to: rt }, Refusal::BadScript(line));
+        return FAULT;
+    }
+    match open_store(rt, folder) {
+        Ok(log) => play_on(rt, folder, script, log),
+        Err(error) => print_unopened(rt, folder, &error),
+    }
+}
+
+fn play_on<R>(rt: &R, folder: &str, script: &[u8], log: FileLog) -> u8
+where
+    R: Input + Print + Eprint + AllocGlobal + Files<File = File>,
+    requires { log.pending ≡ [] }
+{
+    let failure = log.failure();
+    match open_player(rt.alloc(), log) {
+        Ok(mut player) => {
+            let status = played(rt, script, &mut player);
+            print_failure(rt, folder, failure, status)
+        }
+        Err(refusal) => print_unread(rt, folder, Cause::Refused(refusal)),
+    }
+}
+
+fn played<R>(rt: &R, script: &[u8], player: &mut Player<FileLog>) -> u8
+where
+    R: Input + Print + Eprint,
+{
+    let mut wire = Wire {
+        reader: &mut rt.reader(),
+        writer: &mut io::writer(rt),
+        text: &mut ErrorText { to: rt },
+    };
+    let stopped = player.play(script, &mut wire);
+    tell_received(rt, player, status_of(stopped))
+}
+
+fn status_of(stopped: Result<(), Stop>) -> u8 {
+    match stopped {
+        Ok(()) => DONE,
+        Err(Stop::Elsewhere) => FAULT,
+        Err(_) => FAILED,
+    }
+}
+
+fn tell_received<R: Eprint>(rt: &R, player: &Player<FileLog>, status: u8) -> u8 {
+    let received = player.received();
+    match eprintln!(rt;
+        "sent {} again {} heard {} repeated {} stale {} bad {}",
+        received.sent,
+        received.again,
+        received.heard,
+        received.repeated,
+        received.stale,
+        received.bad
+    ) {
+        Ok(()) => status,
+        Err(_) => FAILED,
+    }
+}
