@@ -111,7 +111,7 @@ own_merge : (old new : DcView) (k : Bytes) (r : Refusal) → MergesTo old k (Err
 own_merge old new k r h =
     elim (cases_Bool (may_merge old)) [
       | inl may ↦ own_append _ old.system r new.system (merge_other old.system k old.known)
-            (MatchBool-at_true _ _ may h).0
+          (MatchBool-at_true _ _ may h).0
       | inr never ↦ own_as r NotNow refl (cc (MatchBool-at_false _ _ never h).0)
     ]
 
