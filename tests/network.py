@@ -3,10 +3,11 @@
 them over UDP on the loopback.
 
 SHELL is a built undo_shell: one process of it is the data component (`dc`), another the transaction component (`tc`), which
-plays a script of some OPERATIONS (2,000 unless they are given) on a store. By the run's seed, FIRST (1) and so on, messages
-are lost (30 %), sent twice (20 %), held back so that others overtake them, and beside them comes what is no message; and
-either process is killed and started again. What clients were told is compared with a plain model, and at the end so are the
-rows of both. Prints a line for each run that differs, then the counts of all runs; exit status 1 where one differs.
+plays a script of some OPERATIONS (2,000 unless they are given), each on a store of its own. By the run's seed, FIRST (1) and
+so on, messages are lost (30 %), sent twice (20 %), held back so that others overtake them, and beside them comes what is no
+message; and either process is killed and started again, the data component amid the writing of pages too. What clients were
+told is compared with a plain model, and at the end so are the rows of both. Prints a line for each run that differs, then
+the counts of all runs; exit status 1 where one differs.
 """
 import collections
 import os
@@ -21,8 +22,10 @@ import tempfile
 import time
 
 LOSS, TWICE, LATE, NOISE = 0.3, 0.2, 0.2, 0.02
+WRITING = 0.1  # how often a request to write pages is answered by a kill
 TICK = 0.001  # seconds without any message until the transaction component is sent a tick
 HEAD = struct.Struct(">Q")
+CHECKPOINT = 6  # the kind of a request by which the data component writes its pages
 KEYS = [f"k{number:02}" for number in range(40)]
 
 
@@ -126,6 +129,8 @@ class Model:
         elif words[0] == "scan":
             rows = sorted(self.own.items())
             self.asked = "\n".join([f"rows {len(rows)}"] + [f"{key}={value}" for key, value in rows])
+        elif words[0] in ("low", "tell", "checkpoint"):
+            pass
         elif words[0] == "settle":
             told, self.asked = self.asked, None
             if self.ending is not None:
@@ -136,8 +141,9 @@ class Model:
         return None
 
 
-def lines_of(rng, count):
-    """A script of about so many operations, whose transactions come one after another."""
+def lines_of(rng, count, low):
+    """A script of about so many operations, whose transactions come one after another. All records up to `low` are
+    answered."""
     lines, number = ["settle"], 0
     while count > 0:
         label, number, saved = f"t{number}", number + 1, 0
@@ -162,6 +168,9 @@ def lines_of(rng, count):
                 lines += [f"back {label} {saved}", "settle"]
             count -= 1
         lines += [f"{'commit' if rng.random() < 0.7 else 'rollback'} {label}", "settle"]
+        if rng.random() < 0.2:
+            lines += [f"low {low}"] if rng.random() < 0.5 else []
+            lines += ["tell", "checkpoint", "settle"]
     return lines
 
 
@@ -198,7 +207,7 @@ class Run:
 
     def __init__(self, shell, seed, folder, count, counts):
         self.shell, self.rng, self.folder, self.counts = shell, random.Random(seed), folder, counts
-        self.left, self.model = count, Model()
+        self.left, self.low, self.model = count, 0, Model()
         self.network = Network(self.rng, counts)
         self.dc = None
 
@@ -241,20 +250,36 @@ class Run:
             if self.dc.stdout in ready:
                 for frame in self.from_dc.take(self.dc.stdout.read(1 << 16) or b""):
                     network.send(network.far, network.near, frame)
-            if network.far in ready:
-                self.give(self.dc, network.far.recv(1 << 16))
-            if network.near in ready:
-                self.give(self.tc, network.near.recv(1 << 16))
-            if kill_dc and frames >= kill_dc:
+            if kill_dc and frames >= kill_dc and self.may_kill_dc():
                 kill_dc = 0
-                self.counts["dc killed"] += 1
-                self.dc.kill()
-                self.dc.wait()
-                self.start_dc()
-            if kill_tc and frames >= kill_tc:
+                self.kill_dc()
+                continue
+            if kill_tc and frames >= kill_tc and self.may_kill_tc():
                 self.counts["tc killed"] += 1
                 self.tc.kill()
                 return False
+            if network.far in ready:
+                frame = network.far.recv(1 << 16)
+                self.give(self.dc, frame)
+                if frame[8] == CHECKPOINT and self.rng.random() < WRITING:
+                    time.sleep(self.rng.random() * 0.01)
+                    self.counts["dc killed amid pages"] += 1
+                    self.kill_dc()
+                    continue
+            if network.near in ready:
+                self.give(self.tc, network.near.recv(1 << 16))
+
+    def may_kill_dc(self):
+        return True
+
+    def may_kill_tc(self):
+        return True
+
+    def kill_dc(self):
+        self.counts["dc killed"] += 1
+        self.dc.kill()
+        self.dc.wait()
+        self.start_dc()
 
     @staticmethod
     def give(process, frame):
@@ -279,6 +304,8 @@ class Run:
         if ended and status != 0:
             self.model.faults.append(f"status {status}: {text[-300:]}")
         self.judge(lines, text, ended)
+        if ended:
+            self.low = max([self.low] + [int(line.split()[2]) for line in text.split("\n") if line.startswith("commit logged ")])
         return ended
 
     def judge(self, lines, text, ended):
@@ -327,13 +354,14 @@ class Run:
             count = min(self.left, self.rng.randrange(100, 500))
             kill_tc, kill_dc = (self.rng.randrange(20, 21 + count * 3) if self.rng.random() < 0.6 else 0 for _ in range(2))
             self.left -= count
-            if not self.segment(lines_of(self.rng, count), kill_tc, kill_dc):
+            if not self.segment(lines_of(self.rng, count, self.low), kill_tc, kill_dc):
                 self.look()
         self.undecided = None
         self.look()
         self.dc.stdin.close()
         self.dc.wait()
         self.network.close()
+        self.counts["pages"] += len(os.listdir(f"{self.folder}/leaves/pages"))
         text = open(f"{self.folder}/dc").read().split("\n")
         words = text[0].split()
         for name, number in zip(words[::2], words[1::2]):

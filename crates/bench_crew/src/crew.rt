@@ -26,6 +26,7 @@ enum Manner {
 pub struct Crew {
     manner: Manner,
     operations: u64,
+    is_monitored: bool,
 }
 
 /// A client's share of the work.
@@ -39,15 +40,29 @@ pub struct Share {
 }
 
 impl Crew {
-    /// The work of this name. Those of one letter are named as other programs name theirs.
+    /// The work of this name. Those of one letter are named as other programs name theirs; what is called `monitor-` and so
+    /// is done by the engine under one lock.
     pub fn named(name: &str, operations: u64) -> Option<Crew> {
-        let manner = match name.as_bytes() {
+        let (is_monitored, name) = match name.as_bytes() {
+            [b'm', b'o', b'n', b'i', b't', b'o', b'r', b'-', name @ ..] => (true, name),
+            name => (false, name),
+        };
+        let manner = match name {
             b"g" => Manner::Commits,
             b"h" => Manner::HalfUndone,
             b"one" => Manner::Alone,
             _ => return None,
         };
-        Some(Crew { manner, operations })
+        Some(Crew {
+            manner,
+            operations,
+            is_monitored,
+        })
+    }
+
+    /// Whether the engine under one lock does it.
+    pub fn is_monitored(self) -> bool {
+        self.is_monitored
     }
 
     /// Whether one session does it all.

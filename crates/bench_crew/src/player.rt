@@ -1,21 +1,19 @@
 //! One client of an engine.
+use crate::calls::Calls;
 use crate::crew::{IN_TRANSACTION, Share};
 use crate::draws::{KEYS, Values, key_of, mix};
-use crate::quiet::Quiet;
 use record_key::{Op, Refusal};
-use stable::{CrashLog, CrashPages};
 use std::sync::Wait;
-use worker_pool::{Naming, Session};
 
 /// A session, and whether all that it was asked was done.
 #[derive(Drop)]
-pub struct Player<J: Naming, D: CrashLog, P: CrashPages> {
-    session: Session<J, Quiet, D, P>,
+pub struct Player<S> {
+    session: S,
     done: Result<(), Refusal>,
 }
 
-impl<J: Naming, D: CrashLog + Drop, P: CrashPages + Drop> Player<J, D, P> {
-    pub fn new(session: Session<J, Quiet, D, P>) -> Player<J, D, P> {
+impl<S: Calls + Drop> Player<S> {
+    pub fn new(session: S) -> Player<S> {
         Player {
             session,
             done: Ok(()),
@@ -43,9 +41,9 @@ impl<J: Naming, D: CrashLog + Drop, P: CrashPages + Drop> Player<J, D, P> {
     }
 }
 
-fn load_hundred<J: Naming, D: CrashLog + Drop, P: CrashPages + Drop, R: Wait>(
+fn load_hundred<S: Calls, R: Wait>(
     rt: &R,
-    session: &mut Session<J, Quiet, D, P>,
+    session: &mut S,
     values: &Values,
     first: u64,
 ) -> Result<(), Refusal> {
@@ -58,9 +56,9 @@ fn load_hundred<J: Naming, D: CrashLog + Drop, P: CrashPages + Drop, R: Wait>(
     Ok(())
 }
 
-fn play<J: Naming, D: CrashLog + Drop, P: CrashPages + Drop, R: Wait>(
+fn play<S: Calls, R: Wait>(
     rt: &R,
-    session: &mut Session<J, Quiet, D, P>,
+    session: &mut S,
     values: &Values,
     share: Share,
 ) -> Result<(), Refusal> {
@@ -70,9 +68,9 @@ fn play<J: Naming, D: CrashLog + Drop, P: CrashPages + Drop, R: Wait>(
     Ok(())
 }
 
-fn play_one<J: Naming, D: CrashLog + Drop, P: CrashPages + Drop, R: Wait>(
+fn play_one<S: Calls, R: Wait>(
     rt: &R,
-    session: &mut Session<J, Quiet, D, P>,
+    session: &mut S,
     values: &Values,
     share: Share,
     transaction: u64,
@@ -89,12 +87,11 @@ fn play_one<J: Naming, D: CrashLog + Drop, P: CrashPages + Drop, R: Wait>(
     Ok(())
 }
 
-fn upsert<J: Naming, D: CrashLog + Drop, P: CrashPages + Drop, R: Wait>(
+fn upsert<S: Calls, R: Wait>(
     rt: &R,
-    session: &mut Session<J, Quiet, D, P>,
+    session: &mut S,
     values: &Values,
     (key, draw): (u64, u64),
 ) -> Result<(), Refusal> {
-    session.act(rt, &Op::Upsert(key_of(key)?, values.of(draw)?))?;
-    Ok(())
+    session.act(rt, &Op::Upsert(key_of(key)?, values.of(draw)?))
 }

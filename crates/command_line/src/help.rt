@@ -155,8 +155,9 @@ It is the data component of a node whose transaction component is another proces
 A message is its length in eight bytes, the greatest first, and so many bytes. One that
 is no request, or of which the leaves show that nobody may ask it, is dropped. A message
 of no bytes is a tick, at which a leaf is split or two are joined that are due. The store
-keeps the log of its leaves; the records it has from the other's log, once that has begun
-a session. Where no more messages come it says on standard error what became of them, and
+keeps the log of its leaves and their pages; the records that these lack it has from the
+other's log, once that has begun a session. Without a store no page is kept, and checkpoints
+are refused. Where no more messages come it says on standard error what became of them, and
 which records it has.
 
 Exit status: 0; 2 for a command line outside the grammar, and for a store that can't be
@@ -165,9 +166,10 @@ opened; 3 where memory, a device or a stream failed.";
 pub const PLAYED: &str = "\
 It is the transaction component of a node whose data component is another process, dc,
 and keeps its log in the store. What the lines of the script come to, and what clients are
-told, stands on standard error. At settle messages go until nothing is left to do: at each
-tick, a message of no bytes, the request that isn't answered is sent again, and after 24 of
-these a new session is begun. Lines for the data component aren't played.
+told, stands on standard error. The line req N sends request N, rep N waits for reply N and
+takes it. At settle messages go until nothing is left to do: at each tick, a message of no
+bytes, the request that isn't answered is sent again, and after 24 of these a new session is
+begun. Other lines for the data component aren't played.
 
 Exit status: 0; 2 for a line or a command line outside the grammar, for a line of the data
 component, and for a store that can't be opened; 3 where memory, a device or a stream

@@ -5,12 +5,16 @@ use std::os::fd::AsRawFd;
 use std::path::Path;
 use std::{fs, io};
 
-/// Makes the folder where it isn't there. The folder above it is made by others.
-pub(crate) fn make<R: Files<File = File>>(rt: &R, folder: &str) -> Result<(), StoreError> {
+/// Makes a folder where it isn't there. The folder above it is made by others.
+pub(crate) fn make<R: Files<File = File>>(
+    rt: &R,
+    folder: &str,
+    which: StoreFile,
+) -> Result<(), StoreError> {
     match fs::create_dir(rt, folder) {
         Ok(()) => Ok(()),
         Err(cause) if cause.kind() == io::ErrorKind::AlreadyExists => Ok(()),
-        Err(cause) => Err(StoreError::new(Tried::Make, StoreFile::Folder, cause)),
+        Err(cause) => Err(StoreError::new(Tried::Make, which, cause)),
     }
 }
 
@@ -27,7 +31,12 @@ fn parent_of(folder: &str) -> &str {
     }
 }
 
-fn sync_one<R: Files<File = File>>(rt: &R, path: &str, which: StoreFile) -> Result<(), StoreError> {
+/// After it the files that were made or named anew in a folder are found whatever happens to the machine.
+pub(crate) fn sync_one<R: Files<File = File>>(
+    rt: &R,
+    path: &str,
+    which: StoreFile,
+) -> Result<(), StoreError> {
     let folder = fs::open(rt, path).map_err(|cause| StoreError::new(Tried::Open, which, cause))?;
     folder
         .sync_all()

@@ -26,7 +26,7 @@ pub fn open_store<R: Files<File = File> + AllocGlobal + Clone + Drop>(
     ensures pending { IfOk result (λ log. log.pending ≡ []) }
     ensures unused { IfOk result (λ log. log.usage ≡ freely_unused) }
 {
-    folder::make(rt, folder)?;
+    folder::make(rt, folder, StoreFile::Folder)?;
     let mut mark = mark::open_locked(rt, folder)?;
     let found = mark.read(rt.alloc())?;
     let mut log = match found {
@@ -109,7 +109,7 @@ pub(crate) fn read_mark<R: Files<File = File> + AllocGlobal>(
 }
 
 /// The number that the checksums of the blocks begin with.
-fn number_of(mark: Mark) -> u64 {
+pub(crate) fn number_of(mark: Mark) -> u64 {
     match mark {
         Mark::Whole(number) | Mark::Numbered(number) => number,
         Mark::Old | Mark::Begun | Mark::Other => OLD_NUMBER,

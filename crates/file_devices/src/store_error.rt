@@ -29,6 +29,14 @@ pub enum StoreError {
     Damaged {
         place: u64,
     },
+    /// The folder of the pages has a file that isn't named as a page's is.
+    #[error("the store's folder `pages` has a file that is no page's")]
+    NotAPage,
+    /// The file of this page isn't what was written there.
+    #[error("the store's folder `pages`: the file of page {id} isn't what was written there")]
+    PageDamaged {
+        id: u64,
+    },
     /// The system refused a call: what was tried, of which file, and what the system answered.
     #[error("cannot {tried} {file}: {cause}")]
     Io {
@@ -103,6 +111,12 @@ pub enum StoreFile {
     Log,
     /// What is to take the place of that.
     NewLog,
+    /// The folder that keeps pages.
+    Pages,
+    /// A file there.
+    Page,
+    /// What is to take the place of that.
+    NewPage,
     /// Where the system gives random numbers.
     Random,
 }
@@ -115,6 +129,9 @@ impl fmt::Display for StoreFile {
             StoreFile::Mark => "the store's file `store`",
             StoreFile::Log => "the store's file `log`",
             StoreFile::NewLog => "the store's file `log.new`",
+            StoreFile::Pages => "the store's folder `pages`",
+            StoreFile::Page => "a file of the store's folder `pages`",
+            StoreFile::NewPage => "the store's file `pages/new`",
             StoreFile::Random => "`/dev/urandom`",
         })
     }

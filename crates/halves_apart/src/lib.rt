@@ -7,10 +7,13 @@
 #![tactic(auto)]
 
 mod asked;
+mod delivering;
 mod frames;
+mod messages;
 mod playing;
 mod received;
 mod serving;
+mod settling;
 mod stop;
 mod waiting;
 mod wire;

@@ -18,12 +18,11 @@ pub struct Received {
 }
 
 impl Received {
-    pub(crate) fn count_sent(&mut self) {
+    pub(crate) fn count_sent(&mut self, is_again: bool) {
         self.sent = self.sent.saturating_add(1);
-    }
-
-    pub(crate) fn count_again(&mut self) {
-        self.again = self.again.saturating_add(1);
+        if is_again {
+            self.again = self.again.saturating_add(1);
+        }
     }
 
     pub(crate) fn count_heard(&mut self) {

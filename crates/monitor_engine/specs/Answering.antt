@@ -1,5 +1,5 @@
 -- What a call asks for, and what a line that is told says to it.
-use Rattle.std.specs.Prelude.{◌≡◌, ℕ, Bool, false, cond, Option, Some, None}
+use Rattle.std.specs.Prelude.{◌≡◌, ℕ, Bool, true, false, cond, Option, Some, None}
 use Rattle.record_key.specs.declared.refusal.Refusal.{Refusal}
 use Rattle.record_key.specs.declared.refusal.Refusal.TheVariants.{NotConnected}
 use Rattle.node_monitor.specs.declared.heard.Heard.{Heard}
@@ -30,6 +30,11 @@ sort_of ask.Save = sort.AtOnce
 sort_of (ask.GoBack s) = sort.GoBack
 sort_of ask.Rollback = sort.Rollback
 sort_of ask.Commit = sort.Commit
+
+-- it is answered by what it comes to at once
+abbrev pub is_save : Ask → Bool
+is_save ask.Save = true
+is_save _ = false
 
 abbrev pub sort_in : Event → Sort
 sort_in (event.Act t op) = sort.Act

@@ -1,6 +1,8 @@
 -- How a session's transaction begins.
 use Rattle.std.specs.Prelude.{◌≡◌, ℕ, false, List, [], ◌∷◌, ◌++◌, Some, None}
+use Rattle.boxcar.specs.Table.{Shelves}
 use Rattle.node_monitor.specs.Running.{made}
+use Rattle.node_monitor.specs.Slots.{Slot, Shown, seen}
 use Rattle.node_monitor.specs.pool_journal.specs.Sessions.{is_pending, part_of}
 use Rattle.node_monitor.specs.pool_journal.specs.declared.step.Step.{Step}
 use Rattle.node_monitor.specs.pool_journal.specs.node_laws.specs.declared.event.Event.TheVariants as event
@@ -12,3 +14,9 @@ pub record BeginsAlone (session : ℕ) (o : Out) (steps : List Step) : Type 0 wh
   pub before : List Step
   pub none : (part_of session before).live ≡ None
   pub last : is_pending o ≡ false → steps ≡ before ++ made (Some session) event.Begin o ∷ []
+
+-- the row shows an entry at the end of such a call
+pub record ShowsBegin (row : Shelves) (session : ℕ) (o : Out) : Type 0 where
+  pub entry : Slot
+  pub shown : Shown row entry
+  pub begins : BeginsAlone session o (seen entry)

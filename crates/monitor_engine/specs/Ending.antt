@@ -68,3 +68,8 @@ IsBetweenCalls c u o = (c.busy ≡ false) × IsLeftWith (part_in c) u o
 abbrev pub left_by : ℕ → Sort → Ended → Option Unfinished
 left_by t s (ended.Unfinished f) = Some (record { txn = t; sort = s })
 left_by t s _ = None
+
+-- how an unfinished call of this sort went on, that came to this
+pub record Resumes (sort : Sort) (o : Out) (old : Part) (how : Ended) (new : Part) : Type 0 where
+  pub was : IsHalfDone old sort o
+  pub finishes : Finishes o old how new

@@ -1,6 +1,7 @@
 //! A session's calls, each in holds of the lock.
-ghost use Rattle.std.specs.Prelude.{◌≡◌, false, None, Some, IfSome, IfNone};
+ghost use Rattle.std.specs.Prelude.{◌≡◌, ℕ, true, false, None, Some, IfOk, IfErr, IfSome, IfNone, OnOk};
 ghost use Rattle.node_monitor.specs.Callers.{CallsWith, Follows, IsNews};
+ghost use Rattle.node_monitor.specs.pool_journal.specs.Callers.{IsUntold};
 ghost use Rattle.node_monitor.specs.pool_journal.specs.Sessions.{IsClosed, Part, is_pending, line_of};
 ghost use Rattle.node_monitor.specs.pool_journal.specs.node_laws.specs.declared.event.Event.TheVariants as event;
 ghost use Rattle.node_monitor.specs.session_answers.specs.Answers.{IsSecond, IsUnasked};
@@ -8,8 +9,8 @@ ghost use Rattle.node_monitor.specs.session_answers.specs.Asking.{event_of};
 ghost use Rattle.monitor_engine.specs.Beginning.{BeginsAlone};
 ghost use Rattle.monitor_engine.specs.Ending.{Finishes, part_in};
 
-use crate::beginning::begin_alone;
 use crate::ended::{Ended, ended_by};
+use crate::known::Known;
 use crate::resting::nap;
 use crate::shared::Shared;
 use node_monitor::pool_journal::Naming;
@@ -20,10 +21,11 @@ use std::sync::Wait;
 
 impl<J: Naming, D: CrashLog, P: CrashPages> Shared<J, D, P> {
     /// One hold: a call of the session's transaction, if one is alive, as far as the node lets it come.
-    pub fn ask_once<R: Wait>(
+    pub(crate) fn ask_once<R: Wait>(
         &self,
         rt: &R,
         caller: &mut Caller<J>,
+        known: &mut Known<J>,
         ask: Ask,
         outs: &mut Outs,
     ) -> Option<(u64, News)>
@@ -32,14 +34,21 @@ impl<J: Naming, D: CrashLog, P: CrashPages> Shared<J, D, P> {
         ensures number { caller.new.number ≡ caller.old.number }
         ensures rest { caller.new.busy ≡ false }
         ensures none { IfNone result (IsUnasked (part_in caller.old) (part_in caller.new)) }
+        ensures closed { IfNone result (IsClosed (part_in caller.new)) }
         ensures calls { IfSome result (λ made. ((part_in caller.old).live ≡ Some made.0)
             × CallsWith (event_of made.0 ask) outs.new.call (part_in caller.old) made.1 (part_in caller.new)) }
     {
-        self.hold(rt).ask(rt, self.entries.row(), caller, ask, outs)
+        let (row, marks) = (self.entries.row(), self.entries.marks());
+        let mut guard = self.hold(rt);
+        let held = &mut *guard;
+        let made = held.guarded.ask(rt, row, caller, ask, self.defers, outs);
+        held.mark(marks, caller);
+        known.learn(held, marks);
+        made
     }
 
     /// One hold: the call that begins a transaction, unless one is alive.
-    pub fn begin_once<R: Wait>(
+    pub(crate) fn begin_once<R: Wait>(
         &self,
         rt: &R,
         caller: &mut Caller<J>,
@@ -56,14 +65,15 @@ impl<J: Naming, D: CrashLog, P: CrashPages> Shared<J, D, P> {
             CallsWith event.Begin outs.new.call (part_in caller.old) news (part_in caller.new)) }
     {
         let row = self.entries.row();
-        begin_alone(rt, &mut *self.hold(rt), row, caller, &mut outs.call)
+        self.hold(rt).guarded.begin(rt, row, caller, outs)
     }
 
     /// One hold: a call of which nothing was told yet goes on, as far as the node lets it come.
-    pub fn resume_once<R: Wait>(
+    pub(crate) fn resume_once<R: Wait>(
         &self,
         rt: &R,
         caller: &mut Caller<J>,
+        known: &mut Known<J>,
         txn: u64,
         outs: &mut Outs,
     ) -> News
@@ -74,18 +84,45 @@ impl<J: Naming, D: CrashLog, P: CrashPages> Shared<J, D, P> {
         ensures news { IsNews (part_in caller.old) (part_in caller.new) result }
         ensures call { outs.new.call ≡ outs.old.call }
     {
+        let (row, marks) = (self.entries.row(), self.entries.marks());
         let kind = Kind::of(&outs.call);
-        self.hold(rt)
-            .resume(rt, self.entries.row(), caller, txn, kind, outs)
+        let mut guard = self.hold(rt);
+        let held = &mut *guard;
+        let news = held.guarded.resume(rt, row, caller, txn, kind, outs);
+        held.mark(marks, caller);
+        known.learn(held, marks);
+        news
+    }
+
+    /// One hold: whether a crash has cut the session's latest call off, of which nothing was told yet.
+    pub(crate) fn cut_once<R: Wait>(&self, rt: &R, caller: &mut Caller<J>) -> bool
+        requires rest { caller.old.busy ≡ false }
+        requires untold { line_of (part_in caller.old).latest ≡ None }
+        ensures number { caller.new.number ≡ caller.old.number }
+        ensures rest { caller.new.busy ≡ false }
+        ensures held { result ≡ false → caller.new ≡ caller.old }
+        ensures untold { result ≡ true → IsUntold (part_in caller.old) (part_in caller.new) }
+        ensures cut { result ≡ true → (part_in caller.new).live ≡ None }
+    {
+        let row = self.entries.row();
+        self.hold(rt).guarded.take_cut(rt, row, caller)
+    }
+
+    /// One hold: the session is told how far the log is stable, by an entry of its own.
+    pub(crate) fn learn_once<R: Wait>(&self, rt: &R, known: &mut Known<J>) {
+        let marks = self.entries.marks();
+        let mut guard = self.hold(rt);
+        known.learn(&mut *guard, marks);
     }
 
     /// Goes on until the session's latest call has ended. Where the node lets it come no further its thread stays away
-    /// from the lock for a while.
+    /// from the lock for a while; a commit that has given the lock back takes it again at once.
     #[tactic(auto, using(crate::proofs::Ending::finishes, crate::proofs::Ending::follows_on, crate::proofs::Ending::untold_still))]
-    pub fn carry_on<R: Wait>(
+    pub(crate) fn carry_on<R: Wait>(
         &self,
         rt: &R,
         caller: &mut Caller<J>,
+        known: &mut Known<J>,
         txn: u64,
         outs: &mut Outs,
         first: News,
@@ -101,12 +138,16 @@ impl<J: Naming, D: CrashLog, P: CrashPages> Shared<J, D, P> {
             → Finishes outs.old.call mid result (part_in caller.new) }
     {
         let mut news = first;
+        let mut is_late = !self.defers;
         for _ in rt.forever() {
             if let Some(ended) = ended_by(&outs.call, news) {
                 return ended;
             }
-            nap(rt);
-            news = self.resume_once(rt, caller, txn, outs);
+            if is_late {
+                nap(rt);
+            }
+            is_late = true;
+            news = self.resume_once(rt, caller, known, txn, outs);
         }
         unreachable!()
     }

@@ -6,17 +6,24 @@
 #![tactic(auto)]
 
 mod answers;
-mod beginning;
+mod asking;
 mod calls;
 mod ended;
+mod engine;
+mod held;
+mod known;
+mod opened;
 mod resting;
+mod seated;
+mod session;
 mod shared;
 mod sort;
 
-pub use answers::{bar, begun, saved, told};
-pub use ended::{Ended, Unfinished, left_by};
-pub use shared::Shared;
-pub use sort::Sort;
+pub use engine::Engine;
+pub use node_monitor::Closed;
+pub use node_monitor::pool_journal::Naming;
+pub use opened::Opened;
+pub use session::Session;
 
 // What a crate above names of those below.
 pub use node_monitor;

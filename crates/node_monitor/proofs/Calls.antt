@@ -11,13 +11,13 @@ use Rattle.pool_journal.specs.node_laws.specs.declared.event.Out.{Out}
 use Rattle.pool_journal.specs.Callers.{Awaits, HasLine, IsUntold}
 use Rattle.pool_journal.specs.Errands.{FailsSince}
 use Rattle.pool_journal.specs.Kept.{calls_of}
-use Rattle.pool_journal.specs.Sessions.{IsClosed, IsLeft, IsSameCall, SessionCall, awaits, called_as, is_pending, line_of, part_of, pending}
+use Rattle.pool_journal.specs.Sessions.{IsClosed, IsLeft, IsSameCall, Part, SessionCall, awaits, called_as, is_pending, line_of, part_of, pending}
 use Rattle.pool_journal.specs.Views.{Sees}
 use Rattle.node_monitor.specs.declared.heard.Heard.{Heard}
 use Rattle.node_monitor.specs.declared.news.News.{News}
 use Rattle.node_monitor.specs.declared.news.News.TheVariants as news
 use Rattle.node_monitor.specs.declared.place.Place.{Place}
-use Rattle.node_monitor.specs.Callers.{CallsWith, IsMade, IsNews, IsNewsOf, IsTold, is_busy}
+use Rattle.node_monitor.specs.Callers.{CallsWith, IsCut, IsMade, IsNews, IsNewsOf, IsTold, is_busy}
 use Rattle.node_monitor.specs.Hearing.{as_line}
 use Rattle.node_monitor.specs.Places.{CameSince, HeardSince, IsAmid, IsResting, PlaceKept}
 use Rattle.node_monitor.specs.Running.{GoesOn, made}
@@ -129,6 +129,35 @@ news_resting row names s before es p n m k number seen_is old is =
     seen_is r.2 in
     news_since s before es (part_of s before).failures p sees old refl k.live
     (subst (λ (l : Option Line). CameSince l (part_of s before).failures (part_of s es) p) old came) n is
+
+-- where nothing was told since, and no transaction is alive
+pub cut_off : (row : Shelves) (names : ℕ → ℕ) (s : ℕ) (before es : List Step) (p : Place) (m : ℕ)
+    → PlaceKept row names es s p → p.book.number ≡ m + 1 → seen p.last ≡ before → p.live ≡ None → p.line ≡ None
+    → IsCut (part_of s before) (part_of s es)
+cut_off row names s before es p m k number seen_is gone none =
+    let r = resting es s p m k.stands number in
+    let came = subst (λ (xs : List Step). CameSince (line_of (part_of s xs).latest) (part_of s xs).failures (part_of s es) p)
+    seen_is r.2 in
+    record {
+      live = sym k.live ∙ gone;
+      line = subst (HeardSince (line_of (part_of s before).latest) (line_of (part_of s es).latest)) none came.line;
+    }
+
+line_in : (old new : Option SessionCall) (l : Line) → HasLine old new l → line_of new ≡ Some l
+line_in None new l h = absurd h
+line_in (Some c) new l h = ap line_of h
+
+not_alive : (o : Option ℕ) → o ≡ None → is_some o ≡ true → ⊥
+not_alive o gone alive = cc (sym (ap (λ (x : Option ℕ). is_some x) gone) ∙ alive)
+
+-- nothing else is new of a call that was cut off
+pub news_cut : (old new : Part) (n : News) → IsCut old new → line_of old.latest ≡ None → IsNews old new n
+    → (n ≡ news.CutOff) × IsUntold old new
+news_cut old new (news.Told h) cut none is =
+    absurd (cc (sym (line_in old.latest new.latest (as_line is.txn h) is.latest) ∙ cut.line ∙ none))
+news_cut old new news.CutOff cut none is = (refl, is.0)
+news_cut old new (news.Refused f) cut none is = absurd (not_alive new.live cut.live is.0.alive)
+news_cut old new news.Nothing cut none is = absurd (not_alive new.live cut.live is.0.alive)
 
 -- ---- a call, up to what is found of it
 

@@ -5,3 +5,4 @@ pub mod Calls
 pub mod Quiet
 pub mod Commanding
 pub mod Closing
+pub mod Lows

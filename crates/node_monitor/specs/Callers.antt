@@ -77,3 +77,8 @@ pub record CallsWith (e : Event) (o : Out) (old : Part) (n : News) (new : Part) 
   pub mid : Part
   pub called : IsCalled old e o mid
   pub follows : Follows o mid n new
+
+-- no transaction is alive any more, and nothing was told since
+pub record IsCut (old new : Part) : Type 0 where
+  pub live : new.live ≡ None
+  pub line : line_of new.latest ≡ line_of old.latest

@@ -1,5 +1,5 @@
 -- What tokens of the row show.
-use Rattle.std.specs.Prelude.{◌<◌, ◌^◌, ◌+◌, List}
+use Rattle.std.specs.Prelude.{◌≡◌, ◌<◌, ◌^◌, ◌+◌, List}
 use Rattle.boxcar.specs.Table.{Where, Shelves, Shows}
 use Rattle.pool_journal.specs.declared.step.Step.{Step}
 use Rattle.node_monitor.specs.declared.entry.Entry.{Entry}
@@ -15,3 +15,9 @@ seen p = p.value.past.items
 pub record Shown (row : Shelves) (p : Slot) : Type 0 where
   pub shows : Shows row p
   pub counted : p.index + 1 < 2 ^ 64
+
+-- the row shows an entry up to which these steps are
+pub record IsShownBy (row : Shelves) (steps : List Step) : Type 0 where
+  pub entry : Slot
+  pub shown : Shown row entry
+  pub steps_are : seen entry ≡ steps

@@ -1,6 +1,6 @@
 //! A session's own side.
 ghost use Rattle.std.specs.Prelude.{◌≡◌, ◌≤◌, ◌+◌, false};
-ghost use Rattle.node_monitor.specs.Slots.{Shown};
+ghost use Rattle.node_monitor.specs.Slots.{IsShownBy, Shown};
 
 use crate::entry::Entry;
 use boxcar::Pushed;
@@ -46,6 +46,13 @@ impl<J: Naming> Caller<J> {
             last,
             of: PhantomData,
         }
+    }
+
+    /// The row shows an entry up to which these steps are.
+    pub fn shown(&self)
+        ensures { IsShownBy J.entries self.now.steps }
+    {
+        let _ = &self.last;
     }
 
     pub fn number(&self) -> u64

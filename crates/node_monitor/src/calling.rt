@@ -30,16 +30,28 @@ pub struct Outs {
 }
 
 impl<J: Naming, D: CrashLog, P: CrashPages> Guarded<J, D, P> {
-    // Carries a session's latest call on, as far as the node lets it, and then eases the node.
-    fn go_on<R: Wait>(&mut self, rt: &R, caller: &Caller<J>, txn: u64, kind: Kind, out: &mut Out)
+    // Carries a session's latest call on, as far as the node lets it, and then eases the node. One that defers its force
+    // stays as it is: whoever resumes a Commit first forces for all.
+    fn go_on<R: Wait>(
+        &mut self,
+        rt: &R,
+        caller: &Caller<J>,
+        txn: u64,
+        kind: Kind,
+        defers: bool,
+        out: &mut Out,
+    )
         ensures on { GoesOn self.old.steps self.new.steps }
         ensures done { kind ≡ Kind.Done → self.new.steps ≡ self.old.steps }
     {
+        if defers && kind == Kind::Force {
+            return;
+        }
         self.carry_on(rt, caller, txn, kind, out);
         self.ease(rt, caller, kind);
     }
 
-    // A call of a session that has seen all of its calls, as far as the node lets it come.
+    // A call of a session that has seen all of its calls, as far as the node lets it come, or up to a force.
     fn make<R: Wait>(
         &mut self,
         rt: &R,
@@ -47,6 +59,7 @@ impl<J: Naming, D: CrashLog, P: CrashPages> Guarded<J, D, P> {
         caller: &mut Caller<J>,
         txn: u64,
         event: &Event,
+        defers: bool,
         outs: &mut Outs,
     ) -> News
         requires row { row.now ≡ J.entries }
@@ -61,17 +74,19 @@ impl<J: Naming, D: CrashLog, P: CrashPages> Guarded<J, D, P> {
     {
         let Outs { call, line } = outs;
         self.call(rt, caller, event, call);
-        self.go_on(rt, caller, txn, Kind::of(call), line);
+        self.go_on(rt, caller, txn, Kind::of(call), defers, line);
         self.finish(rt, row, caller)
     }
 
-    /// A call of the session's transaction, if one is alive, as far as the node lets it come.
+    /// A call of the session's transaction, if one is alive, as far as the node lets it come. A Commit that defers its
+    /// force has its record in the log by then: whoever resumes one first forces for all.
     pub fn ask<R: Wait>(
         &mut self,
         rt: &R,
         row: &Row<Entry>,
         caller: &mut Caller<J>,
         ask: Ask,
+        defers: bool,
         outs: &mut Outs,
     ) -> Option<(u64, News)>
         requires row { row.now ≡ J.entries }
@@ -90,7 +105,7 @@ impl<J: Naming, D: CrashLog, P: CrashPages> Guarded<J, D, P> {
             return None;
         };
         let event = ask.into_event(txn);
-        let news = self.make(rt, row, caller, txn, &event, outs);
+        let news = self.make(rt, row, caller, txn, &event, defers, outs);
         Some((txn, news))
     }
 
@@ -108,6 +123,7 @@ impl<J: Naming, D: CrashLog, P: CrashPages> Guarded<J, D, P> {
         ensures caller { caller.new ≡ record { number = caller.old.number; steps = self.new.steps; busy = false } }
         ensures none { IfNone result (IsSecond (part_of caller.old.number caller.old.steps)
             (part_of caller.old.number self.new.steps)) }
+        ensures closed { IfNone result (IsClosed (part_of caller.old.number self.new.steps)) }
         ensures alone { IfSome result (λ news. (part_of caller.old.number self.old.steps).live ≡ None) }
         ensures entered { IfSome result (λ news. is_pending outs.new.call ≡ false
             → self.new.steps ≡ self.old.steps ++ made (Some caller.old.number) event.Begin outs.new.call ∷ []) }
@@ -120,7 +136,7 @@ impl<J: Naming, D: CrashLog, P: CrashPages> Guarded<J, D, P> {
             self.finish(rt, row, caller);
             return None;
         }
-        Some(self.make(rt, row, caller, 0, &Event::Begin, outs))
+        Some(self.make(rt, row, caller, 0, &Event::Begin, false, outs))
     }
 
     /// Carries on a call of which nothing was told yet, as far as the node lets it come.
@@ -143,7 +159,7 @@ impl<J: Naming, D: CrashLog, P: CrashPages> Guarded<J, D, P> {
     {
         self.see(row, caller);
         if !self.has_news(caller) {
-            self.go_on(rt, caller, txn, kind, &mut outs.line);
+            self.go_on(rt, caller, txn, kind, false, &mut outs.line);
         }
         self.finish(rt, row, caller)
     }

@@ -123,6 +123,7 @@ impl<J: Naming, D: CrashLog, P: CrashPages> Guarded<J, D, P> {
             world,
             steps,
             places: _,
+            low: _,
             pace: _,
             of: _,
         } = self;

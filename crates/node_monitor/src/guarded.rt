@@ -1,10 +1,11 @@
 //! What lies under the lock.
-ghost use Rattle.std.specs.Prelude.{◌≡◌, ◌<◌, ◌+◌, ◌++◌, ◌∷◌, List, [], true, false, None, Some, map, length, vec_len, IfErr, IfOk, OnErr, OnOk};
+ghost use Rattle.std.specs.Prelude.{◌≡◌, ◌<◌, ◌≤◌, ◌+◌, ◌++◌, ◌∷◌, List, [], true, false, None, Some, map, length, vec_len, IfErr, IfOk, OnErr, OnOk};
 ghost use Rattle.pool_journal.specs.Commands.{is_command};
 ghost use Rattle.pool_journal.specs.declared.step.Step.{Step};
 ghost use Rattle.std.specs.List.{AllByRecursion};
 ghost use Rattle.pool_journal.specs.node_laws.specs.Stepping.{IsStep};
 ghost use Rattle.pool_journal.specs.Kept.{calls_of};
+ghost use Rattle.pool_journal.specs.Marking.{announced};
 ghost use Rattle.pool_journal.specs.Sessions.{line_of, part_of};
 ghost use Rattle.pool_journal.specs.Steps.{IsStart, node_at};
 ghost use Rattle.pool_journal.specs.Views.{Sees};
@@ -21,6 +22,7 @@ use crate::noting::{again, with_call, with_step};
 use crate::pace::Pace;
 use crate::place::Place;
 use crate::row::pushed;
+use crate::stepping::stepped;
 use boxcar::{Pushed, Vec as Row};
 use ghost_list::GhostList;
 use pool_journal::node_laws::{Event, Out};
@@ -31,13 +33,14 @@ use std::marker::{Model, PhantomData};
 use std::sync::Wait;
 use world::World;
 
-/// A node, and the place of each session; the last place is the engine's own. Contracts see the steps that were made, and
-/// the node.
+/// A node, and the place of each session; the last place is the engine's own; and the greatest low number that was
+/// announced. Contracts see the steps that were made, and the node.
 #[derive(Drop)]
 pub struct Guarded<J: Naming, D: CrashLog, P: CrashPages> {
     pub(crate) world: Box<World<D, P>>,
     pub(crate) steps: GhostList<Step>,
     pub(crate) places: Vec<Place>,
+    pub(crate) low: u64,
     pub(crate) pace: Pace,
     pub(crate) of: PhantomData<J>,
 }
@@ -55,7 +58,7 @@ impl<J: Naming, D: CrashLog, P: CrashPages> Model for Guarded<J, D, P> {
     ghost view = { λ g. record { steps = g.steps.items; node = g.world.value } };
 
     ghost invariant = { λ g.
-        IsGuarded J.start J.entries J.names J.sessions g.steps.items g.world.value g.places.items };
+        IsGuarded J.start J.entries J.names J.sessions g.steps.items g.world.value g.places.items g.low };
 }
 
 // Each place hears a step.
@@ -109,6 +112,7 @@ impl<J: Naming, D: CrashLog, P: CrashPages> Guarded<J, D, P> {
             world,
             steps: GhostList::new(),
             places,
+            low: 0,
             pace: Pace::new(),
             of: PhantomData,
         }
@@ -139,6 +143,14 @@ impl<J: Naming, D: CrashLog, P: CrashPages> Guarded<J, D, P> {
         self.world.stable_end()
     }
 
+    /// The greatest low number that was announced, 0 before any. As much of the log is stable.
+    pub fn announced(&self) -> u64
+        ensures low { result ≡ announced self.now.steps }
+        ensures stable { result ≤ self.now.node.tc.stable }
+    {
+        self.low
+    }
+
     /// A step that is nobody's call.
     pub fn step<R: Wait>(&mut self, rt: &R, event: &Event, out: &mut Out)
         requires plain { is_command event.now ≡ false }
@@ -149,10 +161,11 @@ impl<J: Naming, D: CrashLog, P: CrashPages> Guarded<J, D, P> {
             world,
             steps,
             places,
+            low,
             pace: _,
             of: _,
         } = self;
-        world.step_into(event, out);
+        stepped(&mut **world, low, event, out);
         *steps = with_step(steps, event, out);
         hear_all(rt, places, None, event, out);
     }
@@ -168,6 +181,7 @@ impl<J: Naming, D: CrashLog, P: CrashPages> Guarded<J, D, P> {
             world,
             steps,
             places,
+            low,
             pace: _,
             of: _,
         } = self;
@@ -177,7 +191,7 @@ impl<J: Naming, D: CrashLog, P: CrashPages> Guarded<J, D, P> {
             last: _,
             of: _,
         } = caller;
-        world.step_into(event, out);
+        stepped(&mut **world, low, event, out);
         *steps = with_call(steps, *number, event, out);
         hear_all(rt, places, Some(*number), event, out);
         let place = &mut places[*number as usize];
@@ -196,6 +210,7 @@ impl<J: Naming, D: CrashLog, P: CrashPages> Guarded<J, D, P> {
             world: _,
             steps: _,
             places,
+            low: _,
             pace: _,
             of: _,
         } = self;
@@ -224,6 +239,7 @@ impl<J: Naming, D: CrashLog, P: CrashPages> Guarded<J, D, P> {
             world: _,
             steps,
             places,
+            low: _,
             pace: _,
             of: _,
         } = self;

@@ -10,6 +10,7 @@ mod caller;
 mod calling;
 mod closed;
 mod commands;
+mod cutting;
 mod easing;
 mod entry;
 mod guarded;
@@ -21,6 +22,7 @@ mod pace;
 mod place;
 mod rounds;
 mod row;
+mod stepping;
 
 pub use caller::Caller;
 pub use calling::Outs;

@@ -1,5 +1,5 @@
 //! What lies under the lock of a session.
-ghost use Rattle.std.specs.Prelude.{◌≡◌, ◌+◌, [], Some};
+ghost use Rattle.std.specs.Prelude.{◌≡◌, ◌+◌, true, [], Some, None};
 ghost use Rattle.pool_journal.specs.Sessions.{calls_as};
 ghost use Rattle.node_monitor.specs.Places.{PlaceKept, place_after, place_called, place_heard, place_worked, with_heard};
 ghost use Rattle.node_monitor.specs.Quiet.{waits};
@@ -131,6 +131,14 @@ impl Place {
             return false;
         }
         self.errand.request.is_some() || self.errand.reply.is_some()
+    }
+
+    /// Whether no transaction of its session is alive, and nothing was told that the session hasn't seen.
+    pub(crate) fn is_cut(&self) -> bool
+        ensures live { result ≡ true → self.now.live ≡ None }
+        ensures line { result ≡ true → self.now.line ≡ None }
+    {
+        self.live.is_none() && self.line.is_none()
     }
 
     /// A step.

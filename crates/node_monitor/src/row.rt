@@ -1,18 +1,21 @@
-//! The row in which entries stand, and its growths, which are tried again until they are made.
+//! What the threads read with no lock: the row in which entries stand, and the marks; and the row's growths, which are tried
+//! again until they are made.
 ghost use Rattle.std.specs.Prelude.{◌≡◌};
 ghost use Rattle.node_monitor.specs.Slots.{Shown};
 
 use crate::entry::Entry;
 use boxcar::{Pushed, Vec as Row};
+use marks::Marks;
 use pool_journal::Naming;
 use std::marker::{Model, PhantomData};
 use std::sync::Wait;
 use std::thread;
 
-/// The row of entries, under the name that its tokens go by.
+/// The row of entries, under the name that its tokens go by, and the marks.
 #[derive(Drop)]
 pub struct Entries<J: Naming> {
     row: Row<Entry>,
+    marks: Marks,
     of: PhantomData<J>,
 }
 
@@ -26,15 +29,17 @@ impl<J: Naming> Model for Entries<J> {
 
     ghost view = { λ e. e.row };
 
-    ghost invariant = { λ e. e.row ≡ J.entries };
+    ghost invariant = { λ e. (e.row ≡ J.entries) × (e.marks ≡ J.marks) };
 }
 
 impl<J: Naming> Entries<J> {
-    pub fn new(row: Row<Entry>) -> Entries<J>
-        requires { row ≡ J.entries }
+    pub fn new(row: Row<Entry>, marks: Marks) -> Entries<J>
+        requires row { row ≡ J.entries }
+        requires marks { marks ≡ J.marks }
     {
         Entries {
             row,
+            marks,
             of: PhantomData,
         }
     }
@@ -44,6 +49,13 @@ impl<J: Naming> Entries<J> {
         ensures { result.now ≡ J.entries }
     {
         &self.row
+    }
+
+    /// How far the log is stable, and what was announced as answered.
+    pub fn marks(&self) -> &Marks
+        ensures { result.now ≡ J.marks }
+    {
+        &self.marks
     }
 }
 

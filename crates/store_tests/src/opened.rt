@@ -136,6 +136,8 @@ pub fn put_store_error(why: StoreError, answer: &mut String) -> Result<(), Refus
         StoreError::NotAFile { file } => write!(answer, "NotAFile {file}")?,
         StoreError::Emptied => answer.push_str("Emptied")?,
         StoreError::Damaged { place } => write!(answer, "Damaged {place}")?,
+        StoreError::NotAPage => answer.push_str("NotAPage")?,
+        StoreError::PageDamaged { id } => write!(answer, "PageDamaged {id}")?,
         StoreError::Io { tried, file, .. } => write!(answer, "Io {tried} {file}")?,
         StoreError::NoMemory => return Err(Refusal::NoMemory),
     }

@@ -2,17 +2,15 @@
 ghost use Rattle.std.specs.Prelude.{◌≡◌, []};
 
 use crate::stored::{print_failure, print_faulty, print_unopened, print_unread, print_wanting};
-use file_devices::{FileLog, NoPages, open_store};
+use file_devices::{FileLog, NoPages, open_pages, open_store};
 use halves_apart::{Dc, Player, Served, Stop, Wire, open_data, open_player, serve};
 use node_shell::{DONE, FAILED, FAULT, first_fault, print_refusal, print_table};
 use node_store::Cause;
 use record_key::Refusal;
+use stable::PageDevice;
 use std::fs::{File, Files};
 use std::io::{Read, Write};
 use std::{fs, io, str};
-
-/// A data component that keeps no page.
-type Data = Dc<FileLog, NoPages>;
 
 /// Standard error, as a writer of text.
 #[derive(Drop)]
@@ -34,39 +32,60 @@ impl<R: Eprint> Write for ErrorText<'_, R> {
     }
 }
 
-/// Serves requests until no more come, with the log of leaves in the store of this folder or in memory. Then it tells on
-/// standard error what became of them, and which records there are.
+/// Serves requests until no more come, with the log of leaves and their pages in the store of this folder, or with that
+/// log in memory and no page. Then it tells on standard error what became of them, and which records there are.
 pub fn serve_requests<R>(rt: &R, folder: Option<&str>) -> u8
 where
     R: Input + Print + Eprint + AllocGlobal + Files<File = File> + Copy,
 {
-    let Some(folder) = folder else {
-        return serve_on(rt, "memory", FileLog::volatile(rt.alloc()));
-    };
+    match folder {
+        Some(folder) => serve_store(rt, folder),
+        None => serve_on(rt, "memory", FileLog::volatile(rt.alloc()), NoPages::new()),
+    }
+}
+
+fn serve_store<R>(rt: &R, folder: &str) -> u8
+where
+    R: Input + Print + Eprint + AllocGlobal + Files<File = File> + Copy,
+{
     match open_store(rt, folder) {
-        Ok(log) => {
-            let failure = log.failure();
-            let status = serve_on(rt, folder, log);
-            print_failure(rt, folder, failure, status)
-        }
+        Ok(log) => serve_log(rt, folder, log),
         Err(error) => print_unopened(rt, folder, &error),
     }
 }
 
-fn serve_on<R>(rt: &R, folder: &str, log: FileLog) -> u8
+fn serve_log<R>(rt: &R, folder: &str, log: FileLog) -> u8
 where
-    R: Input + Print + Eprint + AllocGlobal + Files<File = File>,
+    R: Input + Print + Eprint + AllocGlobal + Files<File = File> + Copy,
     requires { log.pending ≡ [] }
 {
-    match open_data(rt.alloc(), log, NoPages::new()) {
+    let pages = match open_pages(rt, folder) {
+        Ok(pages) => pages,
+        Err(error) => return print_unopened(rt, folder, &error),
+    };
+    let of_log = log.failure();
+    let of_pages = pages.failure();
+    let status = serve_on(rt, folder, log, pages);
+    let status = print_failure(rt, folder, of_log, status);
+    print_failure(rt, folder, of_pages, status)
+}
+
+fn serve_on<R, P>(rt: &R, folder: &str, log: FileLog, pages: P) -> u8
+where
+    R: Input + Print + Eprint + AllocGlobal + Files<File = File>,
+    P: PageDevice + Drop,
+    requires { log.pending ≡ [] }
+{
+    match open_data(rt.alloc(), log, pages) {
         Ok(mut data) => serve_streams(rt, &mut data),
         Err(refusal) => print_unread(rt, folder, Cause::Refused(refusal)),
     }
 }
 
-fn serve_streams<R>(rt: &R, data: &mut Data) -> u8
+fn serve_streams<R, P>(rt: &R, data: &mut Dc<FileLog, P>) -> u8
 where
     R: Input + Print + Eprint + AllocGlobal,
+    P: PageDevice,
 {
     match serve(rt.alloc(), data, &mut rt.reader(), &mut io::writer(rt)) {
         Ok(served) => tell_served(rt, served, data),
@@ -74,7 +93,7 @@ where
     }
 }
 
-fn tell_served<R: Eprint>(rt: &R, served: Served, data: &Data) -> u8 {
+fn tell_served<R: Eprint, P: PageDevice>(rt: &R, served: Served, data: &Dc<FileLog, P>) -> u8 {
     let Served { done, refused, bad } = served;
     let Ok(rows) = data.rows() else {
         return FAILED;

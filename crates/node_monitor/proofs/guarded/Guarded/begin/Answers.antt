@@ -1,6 +1,6 @@
-use Rattle.std.proofs.Common.{◌≡◌, List, Option, ℕ, ◌∙◌, ap, sym}
+use Rattle.std.proofs.Common.{◌≡◌, List, Option, ℕ, ◌∙◌, ap, sym, subst}
 use Rattle.std.specs.Option.{is_some}
-use Rattle.pool_journal.specs.Sessions.{calls, part_of}
+use Rattle.pool_journal.specs.Sessions.{IsClosed, calls, part_of}
 use Rattle.pool_journal.specs.declared.step.Step.{Step}
 use Rattle.node_monitor.specs.Found.{Found}
 use Rattle.pool_journal.proofs.Parts.{closed_on}
@@ -19,3 +19,13 @@ returns-in-Some-clause-none g c =
       ap (λ (xs : List Step). calls (part_of n xs)) same ∙ on.0,
       ap (λ (xs : List Step). is_some (part_of n xs).live) same ∙ ap (λ (o : Option ℕ). is_some o) (sym live ∙ c.in-Some.is),
     )
+
+pub returns-in-Some-clause-closed : goal.returns-in-Some-clause-closed
+returns-in-Some-clause-closed g c =
+    let n = c.args.caller.now.number in
+    let before = c.args.caller.now.steps in
+    let es = c.args.self.now.steps in
+    let same : c.finish.new.self.steps ≡ es =
+    ap (λ (f : Found). f.steps) (c.finish.ensures.same ∙ c.see.ensures.same) in
+    subst (λ (xs : List Step). IsClosed (part_of n xs)) (sym same)
+    (closed_on n before es c.see.ensures.sees c.requires.closed).1

@@ -12,6 +12,7 @@ use Rattle.node_monitor.specs.Callers.{CallerView}
 use Rattle.node_monitor.specs.Found.{IsOwned}
 use Rattle.node_monitor.specs.Places.{PlacesKept, place_after}
 use Rattle.node_monitor.specs.Running.{PassesFrom, made}
+use Rattle.node_monitor.proofs.Lows.{announced_next}
 use Rattle.node_monitor.proofs.Places.{own_place, places_called}
 use Rattle.node_monitor.proofs.Running.{owned_call, passes_snoc}
 use Rattle.node_monitor.proofs.guarded.Guarded.call.Goals as goal
@@ -22,7 +23,7 @@ set-requires g c =
     let n = c.caller.inside.number in
     let ps = c.self.inside.places.items in
     let e = c.args.event.now in
-    let o = c.step_into.new.out in
+    let o = c.stepped.new.out in
     let f = place_after (made (Some n) e o) in
     let qs = c.hear_all.new.places.items in
     let p = c.index_mut-place.result.now in
@@ -43,8 +44,8 @@ invariant_of-self g c =
     let es = c.self.inside.steps.items in
     let ps = c.self.inside.places.items in
     let e = c.args.event.now in
-    let o = c.step_into.new.out in
-    let new = c.step_into.new.self in
+    let o = c.stepped.new.out in
+    let new = c.stepped.new.world in
     let f = place_after (made (Some n) e o) in
     let qs = c.hear_all.new.places.items in
     let p = c.index_mut-place.result.now in
@@ -56,7 +57,7 @@ invariant_of-self g c =
     subst (λ (xs : List Place). slice_get xs n ≡ Some p) c.hear_all.ensures.heard there in
     let r : Place = record p { book = c.set.new.self } in
     let stepped : IsStep c.self.inside.world.value e o new =
-    subst (λ (w : NodeView). IsStep w e o new) c.deref_mut.ensures.value c.step_into.ensures in
+    subst (λ (w : NodeView). IsStep w e o new) c.deref_mut.ensures.value c.stepped.ensures.node in
     let all = sym c.with_call.ensures in
     record {
       passes =
@@ -72,4 +73,6 @@ invariant_of-self g c =
           subst (AllByRecursion (IsOwned J.sessions)) all
           (owned_call J.sessions es n e o k.owned
           (λ is. ap (λ (v : CallerView). v.number) c.caller.view_is ∙ c.requires.owned is));
+      low_is = c.stepped.ensures.low ∙ announced_next es (made (Some n) e o) k.low_is all;
+      low_stable = c.stepped.ensures.stable;
     }

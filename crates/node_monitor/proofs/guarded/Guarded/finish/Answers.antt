@@ -84,6 +84,8 @@ invariant_of-self g c =
           (finished_kept J.entries J.names es n p q p.book.name token k here all refl is);
       count = length-set ps n q ∙ count;
       owned = c.self.invariant.owned;
+      low_is = c.self.invariant.low_is;
+      low_stable = c.self.invariant.low_stable;
     }
 
 pub returns-clause-amid : goal.returns-clause-amid

@@ -1,4 +1,4 @@
-use Rattle.std.proofs.Common.{◌≡◌, ◌∙◌, ℕ, false, List, Some, ap, slice_get, sym, subst}
+use Rattle.std.proofs.Common.{◌≡◌, ◌≤◌, ◌∙◌, ℕ, false, List, Some, ap, slice_get, sym, subst}
 use Rattle.pool_journal.specs.node_laws.specs.Forgetting.{without_messages}
 use Rattle.pool_journal.specs.node_laws.specs.Node.{NodeView}
 use Rattle.pool_journal.specs.Steps.{node_at}
@@ -23,6 +23,8 @@ invariant_of-self-2 g c =
       places_are = k.places_are;
       count = k.count;
       owned = k.owned;
+      low_is = k.low_is;
+      low_stable = subst (λ (w : NodeView). c.self.inside.low ≤ w.tc.stable) (sym left) k.low_stable;
     }
 
 pub returns-clause-quiet : goal.returns-clause-quiet

@@ -1,5 +1,6 @@
-use Rattle.std.proofs.Common.{List, sym, subst, inl}
+use Rattle.std.proofs.Common.{List, ap, sym, subst, inl, arith}
 use Rattle.std.specs.List.{AllByRecursion}
+use Rattle.pool_journal.specs.Marking.{announced}
 use Rattle.pool_journal.specs.declared.step.Step.{Step}
 use Rattle.node_monitor.specs.Found.{IsOwned}
 use Rattle.node_monitor.specs.Places.{PlacesKept}
@@ -16,4 +17,6 @@ invariant_of-result g c =
           subst (λ (es : List Step). PlacesKept J.entries J.names es c.args.places.items) none c.requires.places;
       count = c.requires.count;
       owned = subst (λ (es : List Step). AllByRecursion (IsOwned J.sessions) es) none tt;
+      low_is = ap announced none;
+      low_stable = omega arith;
     }

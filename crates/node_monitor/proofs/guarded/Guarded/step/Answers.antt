@@ -9,6 +9,7 @@ use Rattle.node_monitor.specs.declared.place.Place.{Place}
 use Rattle.node_monitor.specs.Found.{IsOwned}
 use Rattle.node_monitor.specs.Places.{PlacesKept, place_after}
 use Rattle.node_monitor.specs.Running.{PassesFrom, made}
+use Rattle.node_monitor.proofs.Lows.{announced_next}
 use Rattle.node_monitor.proofs.Places.{places_stepped}
 use Rattle.node_monitor.proofs.Running.{owned_step, passes_snoc}
 use Rattle.node_monitor.proofs.guarded.Guarded.step.Goals as goal
@@ -19,12 +20,12 @@ invariant_of-self g c =
     let k = c.self.invariant in
     let es = c.self.inside.steps.items in
     let e = c.args.event.now in
-    let o = c.step_into.new.out in
+    let o = c.stepped.new.out in
     let old = c.self.inside.world.value in
-    let new = c.step_into.new.self in
+    let new = c.stepped.new.world in
     let f = place_after (made None e o) in
     let stepped : IsStep old e o new =
-    subst (λ (w : NodeView). IsStep w e o new) c.deref_mut.ensures.value c.step_into.ensures in
+    subst (λ (w : NodeView). IsStep w e o new) c.deref_mut.ensures.value c.stepped.ensures.node in
     let all = sym c.with_step.ensures in
     record {
       passes =
@@ -38,4 +39,6 @@ invariant_of-self g c =
           ap (λ (ps : List Place). length ps) c.hear_all.ensures.heard
           ∙ length-map c.self.inside.places.items f ∙ k.count;
       owned = subst (AllByRecursion (IsOwned J.sessions)) all (owned_step J.sessions es e o k.owned c.requires.plain);
+      low_is = c.stepped.ensures.low ∙ announced_next es (made None e o) k.low_is all;
+      low_stable = c.stepped.ensures.stable;
     }

@@ -1,0 +1,112 @@
+-- A session may go from one thread to another, as what the threads share may: each type from what it holds, since a search
+-- that goes down through them all runs out of steps. A type that holds no tree is shown by its own fields alone.
+use denote.RattleType.{RattleType}
+use denote.Param.Send.{IsSend, IsSync, sendable}
+use Rattle.std.proofs.Crossing.{crosses}
+use Rattle.btree.proofs.tree.node.Node.TheLaws.TheKnot as node
+use Rattle.btree.proofs.tree.summary.Summary.TheSendSync as summary
+use Rattle.btree.specs.contracts.tree.Tree as Tree
+use Rattle.btree.specs.contracts.tree.TreeLeafSet.TheImpl as tree
+use Rattle.ghost_list.proofs.ghost_list.GhostList.TheSendSync as ghost_list
+use Rattle.marks.proofs.seat.Seat.TheSendSync as seat
+use Rattle.node_monitor.proofs.caller.Caller.TheSendSync as caller
+use Rattle.node_monitor.proofs.calling.Outs.TheSendSync as outs
+use Rattle.node_monitor.proofs.pace.Pace.TheSendSync as pace
+use Rattle.node_monitor.proofs.place.Place.TheSendSync as place
+use Rattle.node_monitor.proofs.row.Entries.TheSendSync as entries
+use Rattle.node_monitor.specs.contracts.guarded.Guarded as Guarded
+use Rattle.node_monitor.specs.contracts.guarded.Guarded.TheInside as GuardedInside
+use Rattle.node_monitor.specs.pool_journal.specs.declared.naming.Naming as naming
+use Rattle.node_monitor.specs.session_answers.specs.dc_core.proofs.base.Base.TheSendSync as base
+use Rattle.node_monitor.specs.session_answers.specs.dc_core.specs.contracts.dc.Dc as Dc
+use Rattle.node_monitor.specs.session_answers.specs.dc_core.specs.contracts.dc.Dc.TheInside as DcInside
+use Rattle.node_monitor.specs.session_answers.specs.dc_core.specs.contracts.performances.Performances as Performances
+use Rattle.node_monitor.specs.session_answers.specs.node_sides.proofs.stopped_dc.StoppedDc.TheSendSync as stopped
+use Rattle.node_monitor.specs.session_answers.specs.node_sides.proofs.tc_side.TcSide.TheSendSync as tc_side
+use Rattle.node_monitor.specs.session_answers.specs.node_sides.specs.contracts.dc_side.DcSide as DcSide
+use Rattle.node_monitor.specs.session_answers.specs.node_sides.specs.contracts.tc_side.TcSide as TcSide
+use Rattle.node_monitor.specs.system_txn.proofs.system.SystemTxns.TheSendSync as system
+use Rattle.node_monitor.specs.system_txn.specs.contracts.system.SystemTxns as SystemTxns
+use Rattle.page.proofs.leaf.Leaf.TheSendSync as leaf
+use Rattle.record_key.proofs.key.Key.TheSendSync as key
+use Rattle.stable.specs.declared.log_device.LogDevice as log_device
+use Rattle.stable.specs.declared.page_device.PageDevice as page_device
+use Rattle.std.specs.contracts.alloc.Global as Global
+use Rattle.std.specs.contracts.impls.GlobalAllocator.TheImpl.{ghosts}
+use Rattle.std.specs.contracts.sync.Arc as Arc
+use Rattle.world.proofs.sent.Sent.TheSendSync as sent
+use Rattle.world.specs.contracts.node.Node as Node
+use Rattle.world.specs.contracts.node.Node.TheInside as NodeInside
+use Rattle.world.specs.contracts.world.World as World
+use Rattle.world.specs.contracts.world.World.TheInside as WorldInside
+use Rattle.monitor_engine.proofs.ended.Unfinished.TheSendSync as unfinished
+use Rattle.monitor_engine.proofs.known.Known.TheSendSync as known
+use Rattle.monitor_engine.specs.contracts.held.Held as Held
+use Rattle.monitor_engine.specs.contracts.held.Held.TheInside as HeldInside
+use Rattle.monitor_engine.specs.contracts.session.Session as Session
+use Rattle.monitor_engine.specs.contracts.session.Session.TheInside as SessionInside
+use Rattle.monitor_engine.specs.contracts.shared.Shared as Shared
+
+tree_send : IsSend Tree.the_row
+tree_send = search (leaf.the_send, key.the_send, summary.the_send, node.crosses, crosses, sendable) depth 40
+
+performances_send : IsSend Performances.the_field.row
+performances_send = search (ghost_list.the_send, sendable) depth 20
+
+module _ (D : RattleType) (d : log_device.Ghosts D.Denot) (sd : IsSend D) (P : RattleType)
+    (p : page_device.Ghosts P.Denot) (sp : IsSend P) where
+  system_send : IsSend (SystemTxns.the_row Tree.the_row D P tree.ghosts d p)
+  system_send = search (tree_send, system.the_send) depth 20
+
+  dc_inside_send : IsSend (DcInside.the_row D P d p)
+  dc_inside_send = search (base.the_send, performances_send, system_send, sendable) depth 40
+
+  dc_send : IsSend (Dc.the_row D P d p)
+  dc_send = search (dc_inside_send, sendable) depth 20
+
+  dc_side_send : IsSend (DcSide.the_row D P d p)
+  dc_side_send = search (dc_send, stopped.the_send, sendable) depth 40
+
+  tc_side_send : IsSend (TcSide.the_row D d)
+  tc_side_send = search (tc_side.the_send) depth 12
+
+  node_inside_send : IsSend (NodeInside.the_row D P d p)
+  node_inside_send = search (tc_side_send, dc_side_send, sent.the_send, sendable) depth 20
+
+  node_send : IsSend (Node.the_row D P d p)
+  node_send = search (node_inside_send, sendable) depth 20
+
+  world_inside_send : IsSend (WorldInside.the_row D P d p)
+  world_inside_send = search (node_send, sendable) depth 20
+
+  world_send : IsSend (World.the_row D P d p)
+  world_send = search (world_inside_send, sendable) depth 20
+
+  module _ (J : RattleType) (n : naming.Ghosts J.Denot) (s : IsSend J) (y : IsSync J) where
+    guarded_inside_send : IsSend (GuardedInside.the_row J D P n d p)
+    guarded_inside_send = search (world_send, ghost_list.the_send, place.the_send, pace.the_send, crosses, sendable) depth 20
+
+    guarded_send : IsSend (Guarded.the_row J D P n d p)
+    guarded_send = search (guarded_inside_send, sendable) depth 20
+
+    held_inside_send : IsSend (HeldInside.the_row J D P n d p)
+    held_inside_send = search (guarded_send, seat.the_send, sendable) depth 20
+
+    held_send : IsSend (Held.the_row J D P n d p)
+    held_send = search (held_inside_send, sendable) depth 20
+
+    shared_send : IsSend (Shared.the_row J D P n d p)
+    shared_send = search (held_send, entries.the_send, crosses, sendable) depth 20
+
+    shared_sync : IsSync (Shared.the_row J D P n d p)
+    shared_sync = search (held_send, entries.the_sync, crosses, sendable) depth 20
+
+    arc_send : IsSend (Arc.the_row (Shared.the_row J D P n d p) Global.the_row ghosts)
+    arc_send = search (shared_send, shared_sync, crosses, sendable) depth 8
+
+    session_inside_send : IsSend (SessionInside.the_row J D P n d p)
+    session_inside_send =
+        search (caller.the_send, known.the_send, unfinished.the_send, outs.the_send, arc_send, crosses, sendable) depth 20
+
+    pub any_session_send : IsSend (Session.the_row J D P n d p)
+    any_session_send = search (session_inside_send, sendable) depth 20

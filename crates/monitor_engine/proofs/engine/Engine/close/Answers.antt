@@ -1,0 +1,11 @@
+use Rattle.std.proofs.Common.{◌≡◌, List, ap, sym, ◌∙◌, subst}
+use Rattle.std.specs.List.{AllByRecursion}
+use Rattle.node_monitor.specs.pool_journal.specs.declared.step.Step.{Step}
+use Rattle.monitor_engine.specs.Engines.{IsCovered}
+use Rattle.monitor_engine.proofs.Closing.{covered}
+use Rattle.monitor_engine.proofs.engine.Engine.close.Goals as goal
+
+pub returns-clause-kept : goal.returns-clause-kept
+returns-clause-kept g c =
+    subst (λ (es : List Step). AllByRecursion (IsCovered es) c.args.sessions.items) (sym c.close.ensures.steps)
+    (covered _ c.in_ok-callers.callers.items c.args.sessions.items c.in_ok-callers.ensures.callers c.close.ensures.seen)
