@@ -1,4 +1,4 @@
-//! Cases of an engine whose clients are threads.
+//! Cases of the two engines whose clients are threads: on three locks with workers, and under one lock.
 //!
 //! Knows: the public calls of an engine and its sessions, what each call of its data is to be answered, and the plain
 //! model of a node's clients.
@@ -10,13 +10,17 @@
 #![tactic(auto)]
 
 mod going_on;
+mod monitored;
+mod playing;
 mod running;
 mod tally;
 mod threads;
 
-use pool_cases::{Many, Table, Verdict};
+use monitored::run_monitored;
+use playing::Case;
+use pool_cases::{Hold, Many, Table, Verdict};
 use record_key::Refusal;
-use running::{Case, run_case};
+use running::run_case;
 use std::alloc::Global;
 use std::sync::Wait;
 use std::thread::Threads;
@@ -57,6 +61,7 @@ where
         let block = block.trim();
         if is_case(block) {
             tally.count(name_of(block), run_table(rt, alloc, block));
+            tally.count(name_of(block), monitor_table(rt, alloc, block));
         }
     }
 }
@@ -68,6 +73,18 @@ where
     run_case(rt, alloc, Case::Table(Table::read(alloc, block)?))
 }
 
+// The same under one lock, where no message waits at a gate.
+fn monitor_table<R>(rt: R, alloc: Global, block: &str) -> Verdict
+where
+    R: Threads + Wait + Copy + Send + 'static,
+{
+    let table = Table::read(alloc, block)?;
+    if table.hold != Hold::Nowhere {
+        return Ok(true);
+    }
+    run_monitored(rt, alloc, Case::Table(table))
+}
+
 // Runs the cases whose calls are drawn, each a line.
 fn run_plans<R>(rt: R, alloc: Global, text: &str, tally: &mut Tally)
 where
@@ -76,6 +93,7 @@ where
     for line in text.lines() {
         if is_case(line) {
             tally.count(name_of(line), run_plan(rt, alloc, line));
+            tally.count(name_of(line), monitor_plan(rt, alloc, line));
         }
     }
 }
@@ -85,6 +103,13 @@ where
     R: Threads + Wait + Copy + Send + 'static,
 {
     run_case(rt, alloc, Case::Many(Many::read(alloc, line)?))
+}
+
+fn monitor_plan<R>(rt: R, alloc: Global, line: &str) -> Verdict
+where
+    R: Threads + Wait + Copy + Send + 'static,
+{
+    run_monitored(rt, alloc, Case::Many(Many::read(alloc, line)?))
 }
 
 // An engine has at most eight sessions.
