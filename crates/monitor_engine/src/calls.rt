@@ -10,14 +10,34 @@ ghost use Rattle.monitor_engine.specs.Beginning.{BeginsAlone};
 ghost use Rattle.monitor_engine.specs.Ending.{Finishes, part_in};
 
 use crate::ended::{Ended, ended_by};
+use crate::held::Held;
 use crate::known::Known;
 use crate::resting::nap;
 use crate::shared::Shared;
+use marks::Marks;
 use node_monitor::pool_journal::Naming;
 use node_monitor::session_answers::Ask;
-use node_monitor::{Caller, Kind, News, Outs};
+use node_monitor::{Caller, Heard, Kind, News, Outs};
 use stable::{CrashLog, CrashPages};
 use std::sync::Wait;
+
+// Where a session was told of a commit the marks show how much is stable, and the session learns it. It has seen all steps.
+fn tell_marks<J: Naming, D: CrashLog, P: CrashPages>(
+    held: &mut Held<J, D, P>,
+    marks: &Marks,
+    caller: &Caller<J>,
+    known: &mut Known<J>,
+    news: &News,
+)
+    requires marks { marks.now ≡ J.marks }
+    requires seen { caller.now.steps ≡ held.old.found.steps }
+    ensures same { held.new.found ≡ held.old.found }
+{
+    if let News::Told(Heard::Committed) = news {
+        held.mark(marks, caller);
+        known.learn(held, marks);
+    }
+}
 
 impl<J: Naming, D: CrashLog, P: CrashPages> Shared<J, D, P> {
     /// One hold: a call of the session's transaction, if one is alive, as far as the node lets it come.
@@ -42,8 +62,9 @@ impl<J: Naming, D: CrashLog, P: CrashPages> Shared<J, D, P> {
         let mut guard = self.hold(rt);
         let held = &mut *guard;
         let made = held.guarded.ask(rt, row, caller, ask, self.defers, outs);
-        held.mark(marks, caller);
-        known.learn(held, marks);
+        if let Some((_, news)) = &made {
+            tell_marks(held, marks, caller, known, news);
+        }
         made
     }
 
@@ -89,8 +110,7 @@ impl<J: Naming, D: CrashLog, P: CrashPages> Shared<J, D, P> {
         let mut guard = self.hold(rt);
         let held = &mut *guard;
         let news = held.guarded.resume(rt, row, caller, txn, kind, outs);
-        held.mark(marks, caller);
-        known.learn(held, marks);
+        tell_marks(held, marks, caller, known, &news);
         news
     }
 

@@ -181,14 +181,13 @@ impl<J: Naming, D: CrashLog + Drop, P: CrashPages + Drop> Engine<J, D, P> {
         ensures refused { IfErr result IsOutage }
     {
         let Engine { shared, own, .. } = self;
-        let (row, marks) = (shared.entries.row(), shared.entries.marks());
+        let row = shared.entries.row();
         let mut out = Out::Nothing;
         let mut guard = shared.hold(rt);
         let held = &mut *guard;
         let up = held.guarded.restart(rt, row, own, &mut out);
         held.guarded.kept();
         own.shown();
-        held.mark(marks, own);
         up
     }
 

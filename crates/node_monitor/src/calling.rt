@@ -139,7 +139,8 @@ impl<J: Naming, D: CrashLog, P: CrashPages> Guarded<J, D, P> {
         Some(self.make(rt, row, caller, 0, &Event::Begin, false, outs))
     }
 
-    /// Carries on a call of which nothing was told yet, as far as the node lets it come.
+    /// Carries on a call of which nothing was told yet, as far as the node lets it come, also where a step of it has
+    /// failed.
     pub fn resume<R: Wait>(
         &mut self,
         rt: &R,
@@ -158,7 +159,7 @@ impl<J: Naming, D: CrashLog, P: CrashPages> Guarded<J, D, P> {
         ensures call { outs.new.call ≡ outs.old.call }
     {
         self.see(row, caller);
-        if !self.has_news(caller) {
+        if !self.is_over(caller) {
             self.go_on(rt, caller, txn, kind, false, &mut outs.line);
         }
         self.finish(rt, row, caller)

@@ -278,6 +278,12 @@ impl<J: Naming, D: CrashLog, P: CrashPages> Guarded<J, D, P> {
         self.places[caller.number as usize].line.is_some()
     }
 
+    /// Whether nothing more is to be done for a session's latest call: it was told of or cut off.
+    pub(crate) fn is_over(&self, caller: &Caller<J>) -> bool {
+        let place = &self.places[caller.number as usize];
+        place.line.is_some() || place.live.is_none()
+    }
+
     /// Whether a session has something to see: its call was told of or cut off, or a step of it failed.
     pub fn has_news(&self, caller: &Caller<J>) -> bool {
         let place = &self.places[caller.number as usize];

@@ -60,8 +60,7 @@ where
     for block in text.split("\n\n") {
         let block = block.trim();
         if is_case(block) {
-            tally.count(name_of(block), run_table(rt, alloc, block));
-            tally.count(name_of(block), monitor_table(rt, alloc, block));
+            count_table(rt, alloc, block, tally);
         }
     }
 }
@@ -71,6 +70,20 @@ where
     R: Threads + Wait + Copy + Send + 'static,
 {
     run_case(rt, alloc, Case::Table(Table::read(alloc, block)?))
+}
+
+// Counts a case that is written out, on each engine that it is for.
+fn count_table<R>(rt: R, alloc: Global, block: &str, tally: &mut Tally)
+where
+    R: Threads + Wait + Copy + Send + 'static,
+{
+    let name = name_of(block);
+    if !name.ends_with("_under_one_lock") {
+        tally.count(name, run_table(rt, alloc, block));
+    }
+    if !name.ends_with("_on_three_locks") {
+        tally.count(name, monitor_table(rt, alloc, block));
+    }
 }
 
 // The same under one lock, where no message waits at a gate.
