@@ -1,6 +1,5 @@
 -- How a call ends that was made.
 use Rattle.std.proofs.Common.{◌≡◌, ℕ, Bool, true, false, cond, List, [], ◌∷◌, ◌++◌, Option, Some, None, ap, sym, ◌∙◌, subst, inl, inr, append_assoc}
-use Rattle.std.specs.Option.{is_some}
 use Rattle.node_monitor.specs.declared.heard.Heard.{Heard}
 use Rattle.node_monitor.specs.declared.news.News.{News}
 use Rattle.node_monitor.specs.declared.news.News.TheVariants as news
@@ -8,13 +7,12 @@ use Rattle.node_monitor.specs.Callers.{Follows, IsNews, IsTold}
 use Rattle.node_monitor.specs.Hearing.{as_line}
 use Rattle.node_monitor.specs.pool_journal.specs.Callers.{Awaits, HasLine, IsUntold}
 use Rattle.node_monitor.specs.pool_journal.specs.Errands.{EndsWithFailure, FailsSince}
-use Rattle.node_monitor.specs.pool_journal.specs.Sessions.{IsCalled, IsLeft, LeavesLive, Part, SessionCall, called_as, calls, is_pending, is_untold, line_of, pending, with_latest}
+use Rattle.node_monitor.specs.pool_journal.specs.Sessions.{Part, SessionCall, called_as, is_pending, is_untold, line_of, pending}
 use Rattle.node_monitor.specs.pool_journal.specs.declared.failure.Failure.{Failure}
 use Rattle.node_monitor.specs.pool_journal.specs.node_laws.specs.declared.event.Event.{Event}
 use Rattle.node_monitor.specs.pool_journal.specs.node_laws.specs.declared.event.Out.{Out}
-use Rattle.node_monitor.specs.pool_journal.specs.node_laws.specs.declared.event.Out.TheVariants as out
 use Rattle.monitor_engine.specs.Answering.{sort_in}
-use Rattle.monitor_engine.specs.Ending.{Ends, Finishes, IsEnd, IsLeftWith, left_by}
+use Rattle.monitor_engine.specs.Ending.{Finishes, IsEnd, IsLeftWith, left_by}
 use Rattle.monitor_engine.specs.declared.ended.Ended.{Ended}
 use Rattle.monitor_engine.specs.declared.ended.Ended.TheVariants as ended
 use Rattle.monitor_engine.specs.declared.sort.Sort.{Sort}
@@ -78,19 +76,6 @@ follows_news o mid new n pends found =
 
 -- ---- how it ends
 
--- of a call that is told of later the transaction is the one that was alive before, if one is
-halted : (o : Out) (was : Option ℕ) (mid new : Part) → is_pending o ≡ true → LeavesLive was o mid
-    → new.live ≡ mid.live → is_some new.live ≡ true → new.live ≡ was
-halted (out.Begun t) was mid new pends left same alive = absurd (cc (pends))
-halted _ was mid new pends left same alive = at left
-  where
-    at : IsLeft was mid.live → new.live ≡ was
-    at (inl is) = same ∙ is
-    at (inr gone) = absurd (cc (sym (ap (λ (o : Option ℕ). is_some o) (same ∙ gone)) ∙ alive))
-
-adds : (c : SessionCall) (old new : Part) → new.before ≡ calls old → new.latest ≡ Some c → calls new ≡ calls old ++ c ∷ []
-adds c old new before latest i = with_latest (before i) (latest i)
-
 pub finishes : (o : Out) (mid new : Part) (n : News) (how : Ended) → IsEnd o n how → Follows o mid n new
     → Finishes o mid how new
 finishes o mid new n ended.AtOnce is f = (is, f.done is)
@@ -100,33 +85,6 @@ finishes o mid new n (ended.Unfinished failure) is f =
     let w = subst (λ (w : News). IsNews mid new w) is.1 (f.awaited is.0) in (is.0, w.0, w.1)
 finishes o mid new n ended.CutOff is f =
     let w = subst (λ (w : News). IsNews mid new w) is.1 (f.awaited is.0) in (is.0, w.0, w.1)
-
-pub ends_by : (e : Event) (o : Out) (old mid new : Part) (how : Ended) → IsCalled old e o mid → Finishes o mid how new
-    → Ends e o old how new
-ends_by e o old mid new ended.AtOnce k (done, still) = (
-  done,
-  ap calls still ∙ adds (called_as e o None) old mid k.before k.latest,
-  subst (LeavesLive old.live o) (sym still) k.live,
-)
-ends_by e o old mid new (ended.Told h) k (pends, told) =
-    let latest : new.latest ≡ Some (called_as e o (Some (as_line told.txn h))) =
-    subst (λ (c : Option SessionCall). HasLine c new.latest (as_line told.txn h)) k.latest told.latest in (
-      pends,
-      (
-        told.txn,
-        adds (called_as e o (Some (as_line told.txn h))) old new (told.before ∙ k.before) latest,
-        told.over,
-      ),
-    )
-ends_by e o old mid new (ended.Unfinished f) k (pends, waits, failed) = (
-  pends,
-  halted o old.live mid new pends k.live waits.live waits.alive,
-  waits.alive,
-  adds (called_as e o None) old new (waits.untold.before ∙ k.before) (waits.untold.latest ∙ k.latest),
-  subst (λ (fs : List Failure). EndsWithFailure fs new.failures f) k.failures failed,
-)
-ends_by e o old mid new ended.CutOff k (pends, untold, gone) =
-    (pends, gone, adds (called_as e o None) old new (untold.before ∙ k.before) (untold.latest ∙ k.latest))
 
 -- ---- what is left unfinished
 

@@ -3,9 +3,7 @@ mod Telling
 mod Answering
 mod Refusing
 mod Resuming
-mod Beginning
 mod Marking
-mod Barring
-pub mod Opening
 mod Closing
+pub mod Opening
 pub mod Sharing

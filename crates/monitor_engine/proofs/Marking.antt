@@ -1,5 +1,5 @@
 -- How far the log was stable, as the row shows.
-use Rattle.std.proofs.Common.{◌≡◌, ◌≤◌, ◌<◌, ℕ, max, Bool, true, false, ltb, List, [], refl, subst, sym, inl, arith}
+use Rattle.std.proofs.Common.{◌≡◌, ◌≤◌, ◌<◌, ℕ, max, Bool, true, false, ltb, List, [], refl, subst, sym, ◌∙◌, inl, arith}
 use Rattle.std.proofs.lemmas.Bool.{ltb-true, ltb-false}
 use Rattle.boxcar.specs.Table.{Shelves}
 use Rattle.node_monitor.specs.Running.{PassesFrom}
@@ -21,13 +21,13 @@ stable_first start row first shown empty = record {
 }
 
 -- where a session has seen all steps
-pub stable_now : (start : Start) (row : Shelves) (es : List Step) (node : NodeView) (end : ℕ) → IsShownBy row es
-    → PassesFrom start es node → end ≡ node.tc.stable → WasStable start row end
-stable_now start row es node end by passes is = record {
+pub stable_now : (start : Start) (row : Shelves) (own es : List Step) (node : NodeView) (end : ℕ) → IsShownBy row own
+    → own ≡ es → PassesFrom start es node → end ≡ node.tc.stable → WasStable start row end
+stable_now start row own es node end by same passes is = record {
   entry = by.entry;
   shown = by.shown;
   node = node;
-  passes = subst (λ (steps : List Step). PassesFrom start steps node) (sym by.steps_are) passes;
+  passes = subst (λ (steps : List Step). PassesFrom start steps node) (sym (by.steps_are ∙ same)) passes;
   up_to = omega arith;
 }
 

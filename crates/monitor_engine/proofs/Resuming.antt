@@ -1,5 +1,5 @@
 -- What became of an unfinished call that was carried on.
-use Rattle.std.proofs.Common.{◌≡◌, ℕ, Bool, true, false, cond, [], ◌∷◌, ◌++◌, Option, Some, None, refl, ap, sym, ◌∙◌, subst, inl, inr}
+use Rattle.std.proofs.Common.{◌≡◌, Bool, true, false, cond, [], ◌∷◌, ◌++◌, Option, Some, None, refl, ap, sym, ◌∙◌, subst, inl, inr}
 use Rattle.history.specs.ListMachine.{Line}
 use Rattle.record_key.specs.declared.refusal.Refusal.{Refusal}
 use Rattle.node_monitor.specs.Callers.{IsTold}

@@ -1,5 +1,5 @@
 -- What a line that was told answers.
-use Rattle.std.proofs.Common.{◌≡◌, ℕ, Bool, true, false, Option, Some, None, refl, subst, ◌∙◌, ap, sym}
+use Rattle.std.proofs.Common.{◌≡◌, ℕ, Bool, true, false, Option, Some, None, refl, subst}
 use Rattle.history.specs.ListMachine.{TellsAnswer, TellsRow, TellsRows, TellsBack, TellsRolledBack, TellsCommitted}
 use Rattle.node_monitor.specs.Hearing.{as_line}
 use Rattle.node_monitor.specs.declared.heard.Heard.{Heard}

@@ -1,5 +1,5 @@
 -- What a session shows of its calls and of the marks.
-use Rattle.std.specs.Prelude.{◌≡◌, ℕ, ◌≤◌, IsTrue, Option, Some, None}
+use Rattle.std.specs.Prelude.{◌≡◌, ℕ, ◌≤◌, IsTrue, Some}
 use Rattle.atomic_table.specs.Seated.{TableId}
 use Rattle.boxcar.specs.Table.{Shelves}
 use Rattle.history.specs.ListMachine.{Line}

@@ -1,5 +1,5 @@
 //! A session's call, from the hold in which it is made to its end.
-ghost use Rattle.std.specs.Prelude.{◌≡◌, ℕ, true, false, None, Some, IfOk, IfErr, IfSome, IfNone, OnOk};
+ghost use Rattle.std.specs.Prelude.{◌≡◌, ℕ, false, None, Some, IfOk, IfErr, IfSome, IfNone, OnOk};
 ghost use Rattle.node_monitor.specs.pool_journal.specs.Sessions.{calls, is_pending};
 ghost use Rattle.node_monitor.specs.pool_journal.specs.node_laws.specs.declared.event.Event.TheVariants as event;
 ghost use Rattle.node_monitor.specs.session_answers.specs.Answers.{IsSecond, IsUncalled};

@@ -1,5 +1,5 @@
 //! A session's calls, each in holds of the lock.
-ghost use Rattle.std.specs.Prelude.{◌≡◌, ℕ, true, false, None, Some, IfOk, IfErr, IfSome, IfNone, OnOk};
+ghost use Rattle.std.specs.Prelude.{◌≡◌, true, false, None, Some, IfSome, IfNone};
 ghost use Rattle.node_monitor.specs.Callers.{CallsWith, Follows, IsNews};
 ghost use Rattle.node_monitor.specs.pool_journal.specs.Callers.{IsUntold};
 ghost use Rattle.node_monitor.specs.pool_journal.specs.Sessions.{IsClosed, Part, is_pending, line_of};

@@ -6,7 +6,7 @@ ghost use Rattle.node_monitor.specs.pool_journal.specs.node_laws.specs.declared.
 ghost use Rattle.node_monitor.specs.pool_journal.specs.node_laws.specs.declared.event.Out.TheVariants as out;
 ghost use Rattle.node_monitor.specs.pool_journal.specs.Sessions.{IsClosed};
 ghost use Rattle.node_monitor.specs.session_answers.specs.Again.{CarriesOn, IsSeenBy, RefusedAgain};
-ghost use Rattle.node_monitor.specs.session_answers.specs.Answers.{AddsCall, AddsLiveCall, IsUncalled, RefusedBegin, RefusedCall};
+ghost use Rattle.node_monitor.specs.session_answers.specs.Answers.{AddsCall, AddsLiveCall, RefusedBegin, RefusedCall};
 ghost use Rattle.node_monitor.specs.session_answers.specs.Asking.{event_of};
 ghost use Rattle.monitor_engine.specs.Answering.{is_save};
 ghost use Rattle.monitor_engine.specs.Beginning.{ShowsBegin};

@@ -1,6 +1,5 @@
 use Rattle.std.proofs.Common.{◌∙◌, ap, sym, subst}
 use Rattle.marks.specs.Seen.{Seen}
-use Rattle.node_monitor.specs.Slots.{IsShownBy}
 use Rattle.monitor_engine.proofs.Marking.{stable_max, stable_now}
 use Rattle.monitor_engine.specs.Sessions.{HeldView, IsHeld, WasStable}
 use Rattle.monitor_engine.proofs.held.Held.mark.Goals as goal
@@ -11,9 +10,10 @@ invariant_of-self-2 g c =
     let row = g.J.Naming.entries in
     let found = c.self.inside.guarded in
     let raised = c.raise_stable.ensures.raised in
-    let shown =
-    subst (IsShownBy row) (c.requires.seen ∙ sym (ap (λ (h : HeldView). h.found.steps) c.self.view_is)) c.shown.ensures in
-    let now = stable_now start row found.steps found.node c.in-Ok.end shown c.kept.ensures.passes c.in-Ok.ensures.end in
+    let all_seen = c.requires.seen ∙ sym (ap (λ (h : HeldView). h.found.steps) c.self.view_is) in
+    let now =
+    stable_now start row c.args.caller.now.steps found.steps found.node c.in-Ok.end c.shown.ensures all_seen
+    c.kept.ensures.passes c.in-Ok.ensures.end in
     subst (IsHeld start row g.J.Naming.marks) (sym c.raise_low.ensures.raised) record {
       marks_are = ap (λ (s : Seen). s.marks) raised ∙ c.self.invariant.marks_are;
       raises = ap (λ (s : Seen). s.raises) raised ∙ c.self.invariant.raises;

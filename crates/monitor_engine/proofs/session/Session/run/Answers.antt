@@ -1,4 +1,4 @@
-use Rattle.std.proofs.Common.{◌≡◌, ℕ, false, None, Some, ap, sym, subst, inr}
+use Rattle.std.proofs.Common.{◌≡◌, ℕ, false, None, Some, ap, subst, inr}
 use Rattle.std.proofs.lemmas.Result.{IfErr-weaker, IfOk-weaker}
 use Rattle.record_key.specs.declared.refusal.Refusal.{Refusal}
 use Rattle.node_monitor.specs.declared.heard.Heard.{Heard}

@@ -1,7 +1,6 @@
 use Rattle.std.proofs.Common.{◌≡◌, ◌∙◌, Option, Some, ap, sym, subst}
-use Rattle.node_monitor.specs.pool_journal.specs.Sessions.{is_pending}
+use Rattle.node_monitor.specs.pool_journal.specs.Sessions.{is_pending, line_of}
 use Rattle.node_monitor.specs.pool_journal.specs.node_laws.specs.declared.event.Out.{Out}
-use Rattle.monitor_engine.proofs.Barring.{untold}
 use Rattle.monitor_engine.proofs.Ending.{follows_news, left_with}
 use Rattle.monitor_engine.specs.Ending.{IsHalfDone, IsLeftWith, part_in}
 use Rattle.monitor_engine.specs.declared.ended.Unfinished.{Unfinished}
@@ -15,7 +14,7 @@ carry_on-ended-requires-clause-made g c =
     let was : IsHalfDone old c.in-Some.call.sort o =
     subst (λ (u : Option Unfinished). IsLeftWith old u o) left c.requires.rest.1 in (
       old,
-      untold old c.in-Some.call.sort o was,
+      ap line_of was.latest,
       follows_news c.resume_once-news.new.outs.call old (part_in c.resume_once-news.new.caller) c.resume_once-news.result
           (ap is_pending c.resume_once-news.ensures.call ∙ was.awaited) c.resume_once-news.ensures.news,
     )
