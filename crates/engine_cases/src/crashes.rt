@@ -7,7 +7,12 @@ use record_key::Refusal;
 use std::sync::Wait;
 
 /// Makes the trouble of a case. Whether each restart was done.
-pub fn trouble<E: Operates, R: Wait>(rt: &R, engine: &mut E, stage: &Stage, many: &Many) -> Verdict {
+pub fn trouble<E: Operates, R: Wait>(
+    rt: &R,
+    engine: &mut E,
+    stage: &Stage,
+    many: &Many,
+) -> Verdict {
     let clients = many.sessions as u64;
     match many.plan.trouble {
         Trouble::Nothing => Ok(true),
@@ -20,13 +25,7 @@ pub fn trouble<E: Operates, R: Wait>(rt: &R, engine: &mut E, stage: &Stage, many
 }
 
 // Lets the log's device fail its next call, the second or the third, each time after so many calls more.
-fn fail_all<E: Operates, R: Wait>(
-    rt: &R,
-    engine: &mut E,
-    stage: &Stage,
-    clients: u64,
-    step: u64,
-) {
+fn fail_all<E: Operates, R: Wait>(rt: &R, engine: &mut E, stage: &Stage, clients: u64, step: u64) {
     let mut calls = 0u64;
     for place in 0..FAILURES {
         calls = calls.saturating_add(step);

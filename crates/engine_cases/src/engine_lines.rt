@@ -86,7 +86,11 @@ fn place_of<S: Serves + Drop>(clients: &Vec<Client<S>>, number: &str) -> Option<
 }
 
 // One component crashes.
-fn crash<E: Operates, R: Wait>(rt: &R, engine: &mut E, words: &mut Words<'_>) -> Result<(), Refusal> {
+fn crash<E: Operates, R: Wait>(
+    rt: &R,
+    engine: &mut E,
+    words: &mut Words<'_>,
+) -> Result<(), Refusal> {
     if words.word() == "dc" {
         engine.crash_dc(rt);
     } else {
@@ -96,14 +100,22 @@ fn crash<E: Operates, R: Wait>(rt: &R, engine: &mut E, words: &mut Words<'_>) ->
 }
 
 // A call of the log's device is to fail.
-fn fail<E: Operates, R: Wait>(rt: &R, engine: &mut E, words: &mut Words<'_>) -> Result<(), Refusal> {
+fn fail<E: Operates, R: Wait>(
+    rt: &R,
+    engine: &mut E,
+    words: &mut Words<'_>,
+) -> Result<(), Refusal> {
     engine.fail_tc(rt, words.number()?);
     Ok(())
 }
 
 // Brings the components up, and appends whether they are. Refused NoMemory where that was: records have other numbers
 // than the lines say once it is tried again.
-fn put_restart<E: Operates, R: Wait>(rt: &R, engine: &mut E, text: &mut String) -> Result<(), Refusal> {
+fn put_restart<E: Operates, R: Wait>(
+    rt: &R,
+    engine: &mut E,
+    text: &mut String,
+) -> Result<(), Refusal> {
     match bring_up(rt, engine) {
         Ok(0) => Ok(text.push_str("up")?),
         Ok(_) | Err(Refusal::NoMemory) => Err(Refusal::NoMemory),

@@ -1,7 +1,8 @@
 -- A session may go from one thread to another, as what the threads share may: each type from what it holds, since a search
 -- that goes down through them all runs out of steps. A type that holds no tree is shown by its own fields alone.
 use denote.RattleType.{RattleType}
-use denote.Param.Send.{IsSend, IsSync, sendable}
+use denote.Param.Send.{IsSend, IsSync, part_keyless, recorded_send, sendable, struct_send}
+use denote.Struct.Declared.{shape}
 use Rattle.std.proofs.Crossing.{crosses}
 use Rattle.btree.proofs.tree.node.Node.TheLaws.TheKnot as node
 use Rattle.btree.proofs.tree.summary.Summary.TheSendSync as summary
@@ -13,7 +14,18 @@ use Rattle.node_monitor.proofs.caller.Caller.TheSendSync as caller
 use Rattle.node_monitor.proofs.calling.Outs.TheSendSync as outs
 use Rattle.node_monitor.proofs.pace.Pace.TheSendSync as pace
 use Rattle.node_monitor.proofs.place.Place.TheSendSync as place
+use Rattle.node_monitor.proofs.entry.Entry.TheSendSync as entry
+use Rattle.node_monitor.specs.contracts.entry.Entry as Entry
+use Rattle.node_monitor.specs.pool_journal.proofs.step.Step.TheSendSync as step
+use Rattle.node_monitor.specs.pool_journal.specs.contracts.step.Step as Step
+use Rattle.ghost_list.specs.contracts.ghost_list.GhostList as GhostList
 use Rattle.node_monitor.proofs.row.Entries.TheSendSync as entries
+use Rattle.node_monitor.specs.contracts.row.Entries as Entries
+use Rattle.node_monitor.specs.contracts.row.Entries.TheInside as EntriesInside
+use Rattle.boxcar.proofs.vec.Vec.TheSendSync as row
+use Rattle.marks.proofs.words.Marks.TheSendSync as marks
+use Rattle.node_monitor.specs.contracts.caller.Caller as Caller
+use Rattle.node_monitor.specs.contracts.calling.Outs as Outs
 use Rattle.node_monitor.specs.contracts.guarded.Guarded as Guarded
 use Rattle.node_monitor.specs.contracts.guarded.Guarded.TheInside as GuardedInside
 use Rattle.node_monitor.specs.pool_journal.specs.declared.naming.Naming as naming
@@ -36,16 +48,34 @@ use Rattle.std.specs.contracts.impls.GlobalAllocator.TheImpl.{ghosts}
 use Rattle.std.specs.contracts.sync.Arc as Arc
 use Rattle.world.proofs.sent.Sent.TheSendSync as sent
 use Rattle.world.specs.contracts.node.Node as Node
-use Rattle.world.specs.contracts.node.Node.TheInside as NodeInside
 use Rattle.world.specs.contracts.world.World as World
 use Rattle.world.specs.contracts.world.World.TheInside as WorldInside
 use Rattle.monitor_engine.proofs.ended.Unfinished.TheSendSync as unfinished
 use Rattle.monitor_engine.proofs.known.Known.TheSendSync as known
+use Rattle.core.specs.contracts.option.Option as Option
+use Rattle.monitor_engine.specs.contracts.ended.Unfinished as Unfinished
+use Rattle.monitor_engine.specs.contracts.known.Known as Known
 use Rattle.monitor_engine.specs.contracts.held.Held as Held
 use Rattle.monitor_engine.specs.contracts.held.Held.TheInside as HeldInside
 use Rattle.monitor_engine.specs.contracts.session.Session as Session
 use Rattle.monitor_engine.specs.contracts.session.Session.TheInside as SessionInside
 use Rattle.monitor_engine.specs.contracts.shared.Shared as Shared
+
+steps_send : IsSend (GhostList.the_row Step.the_row)
+steps_send = search (ghost_list.the_send, step.the_send, sendable) depth 12
+
+-- a list that contracts alone see has no bytes and owns nothing
+steps_sync : IsSync (GhostList.the_row Step.the_row)
+steps_sync = record { shared = λ d b o κ q. part_keyless (GhostList.the_row Step.the_row) steps_send q d b o }
+
+entry_sync : IsSync Entry.the_row
+entry_sync = search (steps_sync, crosses, sendable) depth 20
+
+unfinished_send : IsSend (Option.the_field Unfinished.the_row).row
+unfinished_send = search (unfinished.the_send, crosses, sendable) depth 20
+
+outs_send : IsSend Outs.the_field.row
+outs_send = search (outs.the_send, sendable) depth 12
 
 tree_send : IsSend Tree.the_row
 tree_send = search (leaf.the_send, key.the_send, summary.the_send, node.crosses, crosses, sendable) depth 40
@@ -70,11 +100,8 @@ module _ (D : RattleType) (d : log_device.Ghosts D.Denot) (sd : IsSend D) (P : R
   tc_side_send : IsSend (TcSide.the_row D d)
   tc_side_send = search (tc_side.the_send) depth 12
 
-  node_inside_send : IsSend (NodeInside.the_row D P d p)
-  node_inside_send = search (tc_side_send, dc_side_send, sent.the_send, sendable) depth 20
-
-  node_send : IsSend (Node.the_row D P d p)
-  node_send = search (node_inside_send, sendable) depth 20
+  node_send : IsSend (Node.the_field D P d p).row
+  node_send = search (tc_side_send, dc_side_send, sent.the_send, sendable) depth 20
 
   world_inside_send : IsSend (WorldInside.the_row D P d p)
   world_inside_send = search (node_send, sendable) depth 20
@@ -95,18 +122,31 @@ module _ (D : RattleType) (d : log_device.Ghosts D.Denot) (sd : IsSend D) (P : R
     held_send : IsSend (Held.the_row J D P n d p)
     held_send = search (held_inside_send, sendable) depth 20
 
+    entries_inside_sync : IsSync (EntriesInside.the_row J n)
+    entries_inside_sync = search (row.the_sync, entry_sync, entry.the_send, marks.the_sync, crosses, sendable) depth 20
+
+    entries_sync : IsSync (Entries.the_row J n)
+    entries_sync = search (entries_inside_sync, sendable) depth 20
+
     shared_send : IsSend (Shared.the_row J D P n d p)
     shared_send = search (held_send, entries.the_send, crosses, sendable) depth 20
 
     shared_sync : IsSync (Shared.the_row J D P n d p)
-    shared_sync = search (held_send, entries.the_sync, crosses, sendable) depth 20
+    shared_sync = search (held_send, entries_sync, crosses, sendable) depth 20
 
     arc_send : IsSend (Arc.the_row (Shared.the_row J D P n d p) Global.the_row ghosts)
     arc_send = search (shared_send, shared_sync, crosses, sendable) depth 8
 
+    caller_send : IsSend (Caller.the_row J n)
+    caller_send = search (caller.the_send) depth 12
+
+    known_send : IsSend (Known.the_row J n)
+    known_send = search (known.the_send) depth 12
+
     session_inside_send : IsSend (SessionInside.the_row J D P n d p)
-    session_inside_send =
-        search (caller.the_send, known.the_send, unfinished.the_send, outs.the_send, arc_send, crosses, sendable) depth 20
+    session_inside_send = recorded_send (SessionInside.the_field J D P n d p).row _ _ (SessionInside.the_type J D P n d p).to_one
+        (struct_send (shape (SessionInside.the_type J D P n d p))
+        (caller_send, (known_send, (unfinished_send, (outs_send, (arc_send, tt))))))
 
     pub any_session_send : IsSend (Session.the_row J D P n d p)
     any_session_send = search (session_inside_send, sendable) depth 20

@@ -112,7 +112,11 @@ fn close<J: Naming + Drop, R: Wait>(
 }
 
 // Whether what an engine leaves is as it is to be, and its node goes on.
-fn left<J: Naming + Drop>(alloc: Global, closed: Closed<J, MemLog, MemPages>, case: &Case<'_>) -> Verdict {
+fn left<J: Naming + Drop>(
+    alloc: Global,
+    closed: Closed<J, MemLog, MemPages>,
+    case: &Case<'_>,
+) -> Verdict {
     let rows = rows_of(&closed)?;
     if !judge(alloc, &rows, case)? {
         return Ok(false);

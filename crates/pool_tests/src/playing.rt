@@ -87,11 +87,7 @@ where
 }
 
 // The clients' seats and notes.
-fn parted<S: Serves + Drop>(
-    alloc: Global,
-    clients: Vec<Client<S>>,
-    agrees: Verdict,
-) -> Played<S> {
+fn parted<S: Serves + Drop>(alloc: Global, clients: Vec<Client<S>>, agrees: Verdict) -> Played<S> {
     let mut played = Played {
         seats: Vec::new(alloc),
         parts: Vec::new(alloc),

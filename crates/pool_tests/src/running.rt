@@ -5,9 +5,7 @@ ghost use Rattle.worker_pool.specs.Opened.{IsNamed};
 use crate::going_on::{copied, goes_on};
 use crate::playing::{Case, Played, add_client, play};
 use engine_cases::{Left, Seat};
-use pool_cases::{
-    Client, Door, Leaves, Part, Stage, Verdict, both, is_journal, is_played, leaves,
-};
+use pool_cases::{Client, Door, Leaves, Part, Stage, Verdict, both, is_journal, is_played, leaves};
 use record_key::Refusal;
 use std::alloc::Global;
 use std::marker::Brand;

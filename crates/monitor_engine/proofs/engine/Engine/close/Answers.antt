@@ -1,4 +1,4 @@
-use Rattle.std.proofs.Common.{◌≡◌, List, ap, sym, ◌∙◌, subst}
+use Rattle.std.proofs.Common.{List, sym, subst}
 use Rattle.std.specs.List.{AllByRecursion}
 use Rattle.node_monitor.specs.pool_journal.specs.declared.step.Step.{Step}
 use Rattle.monitor_engine.specs.Engines.{IsCovered}

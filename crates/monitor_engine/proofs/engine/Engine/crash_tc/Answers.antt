@@ -1,4 +1,4 @@
-use Rattle.std.proofs.Common.{◌≡◌, ◌++◌, ◌∷◌, [], List, ap, sym, ◌∙◌}
+use Rattle.std.proofs.Common.{◌++◌, ◌∷◌, [], List, ap, ◌∙◌}
 use Rattle.node_monitor.specs.Callers.{CallerView}
 use Rattle.node_monitor.specs.pool_journal.specs.Commands.{commands}
 use Rattle.node_monitor.specs.pool_journal.specs.node_laws.specs.declared.event.Event.{Event}

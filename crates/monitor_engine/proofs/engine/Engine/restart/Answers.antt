@@ -1,5 +1,5 @@
 use Rattle.std.specs.Prelude.{OnOk}
-use Rattle.std.proofs.Common.{◌≡◌, List, Result, Ok, Err, ap, sym, ◌∙◌, subst}
+use Rattle.std.proofs.Common.{List, Result, Ok, Err, ap, sym, ◌∙◌, subst}
 use Rattle.node_monitor.specs.Callers.{CallerView}
 use Rattle.node_monitor.specs.Running.{PassesFrom}
 use Rattle.node_monitor.specs.pool_journal.specs.Commands.{commands}
