@@ -1,7 +1,7 @@
 -- A session may go from one thread to another, as what the threads share may: each type from what it holds, since a search
 -- that goes down through them all runs out of steps. A type that holds no tree is shown by its own fields alone.
 use denote.RattleType.{RattleType}
-use denote.Param.Send.{IsSend, IsSync, part_keyless, recorded_send, sendable, struct_send}
+use denote.Param.Send.{IsSend, IsSync, part_keyless, SendAt, recorded_send_at, recorded_send_of, sendable, struct_send_at}
 use denote.Struct.Declared.{shape}
 use Rattle.std.proofs.Crossing.{crosses}
 use Rattle.btree.proofs.tree.node.Node.TheLaws.TheKnot as node
@@ -71,11 +71,12 @@ steps_sync = record { shared = λ d b o κ q. part_keyless (GhostList.the_row St
 entry_sync : IsSync Entry.the_row
 entry_sync = search (steps_sync, crosses, sendable) depth 20
 
+-- what holds of every value holds of one
+send_at : (R : RattleType) → IsSend R → (x : R.Denot) → SendAt R x
+send_at R s x = (s.owned x, λ k. s.leaving k x)
+
 unfinished_send : IsSend (Option.the_field Unfinished.the_row).row
 unfinished_send = search (unfinished.the_send, crosses, sendable) depth 20
-
-outs_send : IsSend Outs.the_field.row
-outs_send = search (outs.the_send, sendable) depth 12
 
 tree_send : IsSend Tree.the_row
 tree_send = search (leaf.the_send, key.the_send, summary.the_send, node.crosses, crosses, sendable) depth 40
@@ -144,9 +145,20 @@ module _ (D : RattleType) (d : log_device.Ghosts D.Denot) (sd : IsSend D) (P : R
     known_send = search (known.the_send) depth 12
 
     session_inside_send : IsSend (SessionInside.the_row J D P n d p)
-    session_inside_send = recorded_send (SessionInside.the_field J D P n d p).row _ _ (SessionInside.the_type J D P n d p).to_one
-        (struct_send (shape (SessionInside.the_type J D P n d p))
-        (caller_send, (known_send, (unfinished_send, (outs_send, (arc_send, tt))))))
+    session_inside_send = recorded_send_of (SessionInside.the_field J D P n d p).row _ _ (SessionInside.the_type J D P n d p).to_one
+        (λ x. struct_send_at (shape (SessionInside.the_type J D P n d p)) ((SessionInside.the_type J D P n d p).to x) (
+          send_at _ caller_send _,
+          (
+            send_at _ known_send _,
+            (
+              send_at _ unfinished_send _,
+              (
+                recorded_send_at (Outs.the_field).row _ _ (Outs.the_type).to_one outs.the_send x.outs,
+                (send_at _ arc_send _, tt),
+              ),
+            ),
+          ),
+        ))
 
     pub any_session_send : IsSend (Session.the_row J D P n d p)
     any_session_send = search (session_inside_send, sendable) depth 20
