@@ -52,7 +52,7 @@ use Rattle.world.specs.contracts.world.World as World
 use Rattle.world.specs.contracts.world.World.TheInside as WorldInside
 use Rattle.monitor_engine.proofs.ended.Unfinished.TheSendSync as unfinished
 use Rattle.monitor_engine.proofs.known.Known.TheSendSync as known
-use Rattle.core.specs.contracts.option.Option as Option
+use Rattle.std.specs.contracts.option.Option as Option
 use Rattle.monitor_engine.specs.contracts.ended.Unfinished as Unfinished
 use Rattle.monitor_engine.specs.contracts.known.Known as Known
 use Rattle.monitor_engine.specs.contracts.held.Held as Held
