@@ -26,7 +26,6 @@ enum Manner {
 pub struct Crew {
     manner: Manner,
     operations: u64,
-    is_monitored: bool,
 }
 
 /// A client's share of the work.
@@ -40,29 +39,15 @@ pub struct Share {
 }
 
 impl Crew {
-    /// The work of this name. Those of one letter are named as other programs name theirs; what is called `monitor-` and so
-    /// is done by the engine under one lock.
+    /// The work of this name. Those of one letter are named as other programs name theirs.
     pub fn named(name: &str, operations: u64) -> Option<Crew> {
-        let (is_monitored, name) = match name.as_bytes() {
-            [b'm', b'o', b'n', b'i', b't', b'o', b'r', b'-', name @ ..] => (true, name),
-            name => (false, name),
-        };
-        let manner = match name {
+        let manner = match name.as_bytes() {
             b"g" => Manner::Commits,
             b"h" => Manner::HalfUndone,
             b"one" => Manner::Alone,
             _ => return None,
         };
-        Some(Crew {
-            manner,
-            operations,
-            is_monitored,
-        })
-    }
-
-    /// Whether the engine under one lock does it.
-    pub fn is_monitored(self) -> bool {
-        self.is_monitored
+        Some(Crew { manner, operations })
     }
 
     /// Whether one session does it all.

@@ -1,19 +1,21 @@
 //! One client of an engine.
-use crate::calls::Calls;
 use crate::crew::{IN_TRANSACTION, Share};
 use crate::draws::{KEYS, Values, key_of, mix};
+use crate::quiet::Quiet;
 use record_key::{Op, Refusal};
+use stable::{CrashLog, CrashPages};
 use std::sync::Wait;
+use worker_pool::{Naming, Session};
 
 /// A session, and whether all that it was asked was done.
 #[derive(Drop)]
-pub struct Player<S> {
-    session: S,
+pub struct Player<J: Naming, D: CrashLog, P: CrashPages> {
+    session: Session<J, Quiet, D, P>,
     done: Result<(), Refusal>,
 }
 
-impl<S: Calls + Drop> Player<S> {
-    pub fn new(session: S) -> Player<S> {
+impl<J: Naming, D: CrashLog + Drop, P: CrashPages + Drop> Player<J, D, P> {
+    pub fn new(session: Session<J, Quiet, D, P>) -> Player<J, D, P> {
         Player {
             session,
             done: Ok(()),
@@ -41,9 +43,9 @@ impl<S: Calls + Drop> Player<S> {
     }
 }
 
-fn load_hundred<S: Calls, R: Wait>(
+fn load_hundred<J: Naming, D: CrashLog + Drop, P: CrashPages + Drop, R: Wait>(
     rt: &R,
-    session: &mut S,
+    session: &mut Session<J, Quiet, D, P>,
     values: &Values,
     first: u64,
 ) -> Result<(), Refusal> {
@@ -56,9 +58,9 @@ fn load_hundred<S: Calls, R: Wait>(
     Ok(())
 }
 
-fn play<S: Calls, R: Wait>(
+fn play<J: Naming, D: CrashLog + Drop, P: CrashPages + Drop, R: Wait>(
     rt: &R,
-    session: &mut S,
+    session: &mut Session<J, Quiet, D, P>,
     values: &Values,
     share: Share,
 ) -> Result<(), Refusal> {
@@ -68,9 +70,9 @@ fn play<S: Calls, R: Wait>(
     Ok(())
 }
 
-fn play_one<S: Calls, R: Wait>(
+fn play_one<J: Naming, D: CrashLog + Drop, P: CrashPages + Drop, R: Wait>(
     rt: &R,
-    session: &mut S,
+    session: &mut Session<J, Quiet, D, P>,
     values: &Values,
     share: Share,
     transaction: u64,
@@ -87,11 +89,12 @@ fn play_one<S: Calls, R: Wait>(
     Ok(())
 }
 
-fn upsert<S: Calls, R: Wait>(
+fn upsert<J: Naming, D: CrashLog + Drop, P: CrashPages + Drop, R: Wait>(
     rt: &R,
-    session: &mut S,
+    session: &mut Session<J, Quiet, D, P>,
     values: &Values,
     (key, draw): (u64, u64),
 ) -> Result<(), Refusal> {
-    session.act(rt, &Op::Upsert(key_of(key)?, values.of(draw)?))
+    session.act(rt, &Op::Upsert(key_of(key)?, values.of(draw)?))?;
+    Ok(())
 }

@@ -1,18 +1,17 @@
 //! What the main thread does to the engine beside its clients: crashes, and failures of the log's device.
-use crate::operates::Operates;
 use pool_cases::{
-    CRASHES, Crash, FAILS, FAILURES, Many, Stage, TRIES, Trouble, Verdict, both, crash_at,
+    CRASHES, Crash, Door, FAILS, FAILURES, Many, Stage, TRIES, Trouble, Verdict, both, crash_at,
 };
 use record_key::Refusal;
 use std::sync::Wait;
+use worker_pool::{Engine, Naming};
 
 /// Makes the trouble of a case. Whether each restart was done.
-pub fn trouble<E: Operates, R: Wait>(
-    rt: &R,
-    engine: &mut E,
-    stage: &Stage,
-    many: &Many,
-) -> Verdict {
+pub fn trouble<J, R>(rt: &R, engine: &mut Engine<J, Door>, stage: &Stage, many: &Many) -> Verdict
+where
+    J: Naming + Drop + Send + Sync + 'static,
+    R: Wait,
+{
     let clients = many.sessions as u64;
     match many.plan.trouble {
         Trouble::Nothing => Ok(true),
@@ -25,7 +24,11 @@ pub fn trouble<E: Operates, R: Wait>(
 }
 
 // Lets the log's device fail its next call, the second or the third, each time after so many calls more.
-fn fail_all<E: Operates, R: Wait>(rt: &R, engine: &mut E, stage: &Stage, clients: u64, step: u64) {
+fn fail_all<J, R>(rt: &R, engine: &mut Engine<J, Door>, stage: &Stage, clients: u64, step: u64)
+where
+    J: Naming + Drop + Send + Sync + 'static,
+    R: Wait,
+{
     let mut calls = 0u64;
     for place in 0..FAILURES {
         calls = calls.saturating_add(step);
@@ -36,13 +39,17 @@ fn fail_all<E: Operates, R: Wait>(rt: &R, engine: &mut E, stage: &Stage, clients
 
 // Makes each crash after so many calls more, restarts what is down, and lets a device fail some calls later. Whether each
 // restart was done.
-fn crash_all<E: Operates, R: Wait>(
+fn crash_all<J, R>(
     rt: &R,
-    engine: &mut E,
+    engine: &mut Engine<J, Door>,
     stage: &Stage,
     clients: u64,
     step: u64,
-) -> Verdict {
+) -> Verdict
+where
+    J: Naming + Drop + Send + Sync + 'static,
+    R: Wait,
+{
     let mut up = Ok(true);
     let mut calls = 0u64;
     for place in 0..CRASHES {
@@ -55,7 +62,11 @@ fn crash_all<E: Operates, R: Wait>(
 
 /// Brings the components up, and answers how often that was refused memory. Where it always is the transaction component
 /// crashes, so that no call waits for them.
-pub fn bring_up<E: Operates, R: Wait>(rt: &R, engine: &mut E) -> Result<u64, Refusal> {
+pub fn bring_up<J, R>(rt: &R, engine: &mut Engine<J, Door>) -> Result<u64, Refusal>
+where
+    J: Naming + Drop + Send + Sync + 'static,
+    R: Wait,
+{
     for refused in 0..TRIES {
         match engine.restart(rt) {
             Err(Refusal::NoMemory) => {}
@@ -68,7 +79,11 @@ pub fn bring_up<E: Operates, R: Wait>(rt: &R, engine: &mut E) -> Result<u64, Ref
 }
 
 // Clients wait from before a crash until all is up again, if they are refused.
-fn fall<E: Operates, R: Wait>(rt: &R, engine: &mut E, stage: &Stage, crash: Crash) -> Verdict {
+fn fall<J, R>(rt: &R, engine: &mut Engine<J, Door>, stage: &Stage, crash: Crash) -> Verdict
+where
+    J: Naming + Drop + Send + Sync + 'static,
+    R: Wait,
+{
     stage.set_down(true);
     match crash {
         Crash::Data => engine.crash_dc(rt),

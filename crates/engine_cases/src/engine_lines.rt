@@ -1,23 +1,23 @@
 //! Lines of text that say what is done to an engine or by one of its clients, each with its answer.
 use crate::crashes::bring_up;
-use crate::operates::Operates;
-use pool_cases::{Client, Serves, Verdict, parted, put_answer, room};
+use pool_cases::{Client, Door, Serves, Verdict, parted, put_answer, room};
 use record_key::Refusal;
 use std::alloc::Global;
 use std::sync::Wait;
 use test_lines::{Words, put_refusal};
+use worker_pool::{Engine, Naming};
 
 /// Does what each line says, of a client by its number or of the engine, up to the first whose answer differs. Whether
 /// none does.
-pub fn follow_all<E, S, R>(
+pub fn follow_all<J, S, R>(
     rt: &R,
     alloc: Global,
-    engine: &mut E,
+    engine: &mut Engine<J, Door>,
     clients: &mut Vec<Client<S>>,
     lines: &str,
 ) -> Verdict
 where
-    E: Operates,
+    J: Naming + Drop + Send + Sync + 'static,
     S: Serves + Drop,
     R: Wait,
 {
@@ -31,16 +31,16 @@ where
 }
 
 // Whether what the line says is answered so.
-fn happens<E, S, R>(
+fn happens<J, S, R>(
     rt: &R,
     alloc: Global,
-    engine: &mut E,
+    engine: &mut Engine<J, Door>,
     clients: &mut Vec<Client<S>>,
     line: &str,
     text: &mut String,
 ) -> Verdict
 where
-    E: Operates,
+    J: Naming + Drop + Send + Sync + 'static,
     S: Serves + Drop,
     R: Wait,
 {
@@ -86,11 +86,11 @@ fn place_of<S: Serves + Drop>(clients: &Vec<Client<S>>, number: &str) -> Option<
 }
 
 // One component crashes.
-fn crash<E: Operates, R: Wait>(
-    rt: &R,
-    engine: &mut E,
-    words: &mut Words<'_>,
-) -> Result<(), Refusal> {
+fn crash<J, R>(rt: &R, engine: &mut Engine<J, Door>, words: &mut Words<'_>) -> Result<(), Refusal>
+where
+    J: Naming + Drop + Send + Sync + 'static,
+    R: Wait,
+{
     if words.word() == "dc" {
         engine.crash_dc(rt);
     } else {
@@ -100,22 +100,22 @@ fn crash<E: Operates, R: Wait>(
 }
 
 // A call of the log's device is to fail.
-fn fail<E: Operates, R: Wait>(
-    rt: &R,
-    engine: &mut E,
-    words: &mut Words<'_>,
-) -> Result<(), Refusal> {
+fn fail<J, R>(rt: &R, engine: &mut Engine<J, Door>, words: &mut Words<'_>) -> Result<(), Refusal>
+where
+    J: Naming + Drop + Send + Sync + 'static,
+    R: Wait,
+{
     engine.fail_tc(rt, words.number()?);
     Ok(())
 }
 
 // Brings the components up, and appends whether they are. Refused NoMemory where that was: records have other numbers
 // than the lines say once it is tried again.
-fn put_restart<E: Operates, R: Wait>(
-    rt: &R,
-    engine: &mut E,
-    text: &mut String,
-) -> Result<(), Refusal> {
+fn put_restart<J, R>(rt: &R, engine: &mut Engine<J, Door>, text: &mut String) -> Result<(), Refusal>
+where
+    J: Naming + Drop + Send + Sync + 'static,
+    R: Wait,
+{
     match bring_up(rt, engine) {
         Ok(0) => Ok(text.push_str("up")?),
         Ok(_) | Err(Refusal::NoMemory) => Err(Refusal::NoMemory),

@@ -7,12 +7,8 @@
 
 mod crashes;
 mod engine_lines;
-mod monitor_seats;
-mod operates;
 mod seats;
 
 pub use crashes::trouble;
 pub use engine_lines::follow_all;
-pub use monitor_seats::MonitorSeat;
-pub use operates::Operates;
 pub use seats::{Left, Seat};

@@ -1,4 +1,4 @@
-//! Cases of the two engines whose clients are threads: on three locks with workers, and under one lock.
+//! Cases of an engine whose clients are threads.
 //!
 //! Knows: the public calls of an engine and its sessions, what each call of its data is to be answered, and the plain
 //! model of a node's clients.
@@ -10,17 +10,13 @@
 #![tactic(auto)]
 
 mod going_on;
-mod monitored;
-mod playing;
 mod running;
 mod tally;
 mod threads;
 
-use monitored::run_monitored;
-use playing::Case;
-use pool_cases::{Hold, Many, Table, Verdict};
+use pool_cases::{Many, Table, Verdict};
 use record_key::Refusal;
-use running::run_case;
+use running::{Case, run_case};
 use std::alloc::Global;
 use std::sync::Wait;
 use std::thread::Threads;
@@ -60,7 +56,7 @@ where
     for block in text.split("\n\n") {
         let block = block.trim();
         if is_case(block) {
-            count_table(rt, alloc, block, tally);
+            tally.count(name_of(block), run_table(rt, alloc, block));
         }
     }
 }
@@ -72,32 +68,6 @@ where
     run_case(rt, alloc, Case::Table(Table::read(alloc, block)?))
 }
 
-// Counts a case that is written out, on each engine that it is for.
-fn count_table<R>(rt: R, alloc: Global, block: &str, tally: &mut Tally)
-where
-    R: Threads + Wait + Copy + Send + 'static,
-{
-    let name = name_of(block);
-    if !name.ends_with("_under_one_lock") {
-        tally.count(name, run_table(rt, alloc, block));
-    }
-    if !name.ends_with("_on_three_locks") {
-        tally.count(name, monitor_table(rt, alloc, block));
-    }
-}
-
-// The same under one lock, where no message waits at a gate.
-fn monitor_table<R>(rt: R, alloc: Global, block: &str) -> Verdict
-where
-    R: Threads + Wait + Copy + Send + 'static,
-{
-    let table = Table::read(alloc, block)?;
-    if table.hold != Hold::Nowhere {
-        return Ok(true);
-    }
-    run_monitored(rt, alloc, Case::Table(table))
-}
-
 // Runs the cases whose calls are drawn, each a line.
 fn run_plans<R>(rt: R, alloc: Global, text: &str, tally: &mut Tally)
 where
@@ -106,7 +76,6 @@ where
     for line in text.lines() {
         if is_case(line) {
             tally.count(name_of(line), run_plan(rt, alloc, line));
-            tally.count(name_of(line), monitor_plan(rt, alloc, line));
         }
     }
 }
@@ -116,13 +85,6 @@ where
     R: Threads + Wait + Copy + Send + 'static,
 {
     run_case(rt, alloc, Case::Many(Many::read(alloc, line)?))
-}
-
-fn monitor_plan<R>(rt: R, alloc: Global, line: &str) -> Verdict
-where
-    R: Threads + Wait + Copy + Send + 'static,
-{
-    run_monitored(rt, alloc, Case::Many(Many::read(alloc, line)?))
 }
 
 // An engine has at most eight sessions.

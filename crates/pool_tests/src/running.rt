@@ -1,17 +1,68 @@
-//! A case on three locks, from its engine's first thread to its verdict.
+//! A case, from its engine's first thread to its verdict.
 ghost use Rattle.std.specs.Prelude.{◌<◌};
 ghost use Rattle.worker_pool.specs.Opened.{IsNamed};
 
-use crate::going_on::{copied, goes_on};
-use crate::playing::{Case, Played, add_client, play};
+use crate::going_on::goes_on;
+use crate::threads::{Client, play_many, play_table};
 use engine_cases::{Left, Seat};
-use pool_cases::{Client, Door, Leaves, Part, Stage, Verdict, both, is_journal, is_played, leaves};
+use pool_cases::{
+    Door, Hold, Leaves, Many, Part, Stage, Table, Verdict, both, is_journal, is_played, leaves,
+};
 use record_key::Refusal;
-use std::alloc::Global;
+use std::alloc::{AllocError, Global};
 use std::marker::Brand;
 use std::sync::{Arc, Wait};
 use std::thread::Threads;
-use worker_pool::{Closed, Engine, Naming, Opened, Session};
+use worker_pool::{Engine, Naming, Opened, Session};
+
+/// A case.
+#[derive(Clone, Copy)]
+pub enum Case<'a> {
+    Table(Table<'a>),
+    Many(Many),
+}
+
+impl Case<'_> {
+    fn sessions(&self) -> usize {
+        match self {
+            Case::Table(table) => table.sessions,
+            Case::Many(many) => many.sessions,
+        }
+    }
+
+    fn workers(&self) -> usize {
+        match self {
+            Case::Table(table) => table.workers,
+            Case::Many(many) => many.workers,
+        }
+    }
+
+    fn hold(&self) -> Hold {
+        match self {
+            Case::Table(table) => table.hold,
+            Case::Many(_) => Hold::Briefly,
+        }
+    }
+}
+
+/// What the clients leave: their sessions, what each noted, and whether all was as it is to be so far.
+#[derive(Drop)]
+struct Played<J: Naming> {
+    sessions: Vec<Session<J, Door>>,
+    parts: Vec<Part>,
+    agrees: Verdict,
+}
+
+impl<J: Naming + Drop> Played<J> {
+    // Takes a client's session and notes.
+    fn take(&mut self, client: Client<J>) -> Result<(), AllocError> {
+        let session = client.number();
+        let (seat, notes) = client.parted();
+        self.sessions.push(seat.into_session())?;
+        self.parts.push(Part { session, notes })?;
+        Ok(())
+    }
+}
 
 /// Runs a case on an engine of its own. Whether it agrees.
 pub fn run_case<R>(rt: R, alloc: Global, case: Case<'_>) -> Verdict
@@ -53,36 +104,8 @@ where
     requires some { 0 < workers }
 {
     let (mut engine, sessions) = Engine::<J, Door>::new(rt, opened, workers, door)?;
-    let mut clients = Vec::new(alloc);
-    let all = add_clients(alloc, &mut clients, sessions);
-    let played = play(rt, alloc, &mut engine, clients, all, stage, case);
+    let played = play(rt, alloc, &mut engine, sessions, stage, case);
     close(rt, alloc, engine, played, case)
-}
-
-// A client of each session. Whether there is memory for all.
-fn add_clients<J: Naming + Drop>(
-    alloc: Global,
-    clients: &mut Vec<Client<Seat<J>>>,
-    sessions: Vec<Session<J, Door>>,
-) -> bool {
-    let mut all = true;
-    for session in sessions {
-        all = add_client(alloc, clients, Seat::new(session)) && all;
-    }
-    all
-}
-
-// The sessions of these seats, but for those for which there is no memory. Whether there is for all.
-fn sessions_of<J: Naming + Drop>(
-    alloc: Global,
-    seats: Vec<Seat<J>>,
-) -> (Vec<Session<J, Door>>, bool) {
-    let mut sessions = Vec::new(alloc);
-    let mut all = true;
-    for seat in seats {
-        all = sessions.push(seat.into_session()).is_ok() && all;
-    }
-    (sessions, all)
 }
 
 // Closes the engine, and judges what it leaves.
@@ -90,7 +113,7 @@ fn close<J, R>(
     rt: R,
     alloc: Global,
     engine: Engine<J, Door>,
-    played: Played<Seat<J>>,
+    played: Played<J>,
     case: &Case<'_>,
 ) -> Verdict
 where
@@ -98,17 +121,11 @@ where
     R: Threads + Wait + Copy + Send + 'static,
 {
     let Played {
-        seats,
+        sessions,
         parts,
         agrees,
     } = played;
-    let (sessions, all) = sessions_of(alloc, seats);
     let closed = engine.close(&rt, sessions)?;
-    let agrees = if all {
-        agrees
-    } else {
-        both(agrees, Err(Refusal::NoMemory))
-    };
     let judged = judge(
         alloc,
         &Left { closed: &closed },
@@ -116,13 +133,7 @@ where
         case,
         is_whole(agrees),
     );
-    both(both(agrees, judged), went_on(alloc, closed))
-}
-
-// Whether the node that is left goes on.
-fn went_on<J: Naming + Drop>(alloc: Global, closed: Closed<J>) -> Verdict {
-    let rows = copied(alloc, closed.rows().unwrap_or(&[]))?;
-    goes_on(alloc, rows.as_slice(), closed.into_node())
+    both(both(agrees, judged), goes_on(alloc, closed))
 }
 
 // Whether the case was played to its end.
@@ -146,4 +157,62 @@ fn judge<L: Leaves>(
         Case::Table(table) => leaves(alloc, closed, table.left),
         Case::Many(many) => is_played(closed, many),
     }
+}
+
+// Lets the clients play. Where there is no memory for them they are gone.
+fn play<J, R>(
+    rt: R,
+    alloc: Global,
+    engine: &mut Engine<J, Door>,
+    sessions: Vec<Session<J, Door>>,
+    stage: &Arc<Stage>,
+    case: &Case<'_>,
+) -> Played<J>
+where
+    J: Naming + Drop + Send + Sync + 'static,
+    R: Threads + Wait + Copy + Send + 'static,
+{
+    let mut clients = Vec::new(alloc);
+    let all = add_clients(alloc, &mut clients, sessions);
+    let agrees = match case {
+        _ if !all => Err(Refusal::NoMemory),
+        Case::Table(table) => play_table(rt, alloc, engine, &mut clients, stage, table),
+        Case::Many(many) => play_many(rt, alloc, engine, &mut clients, stage, many),
+    };
+    parted(alloc, clients, agrees)
+}
+
+// A client of each session. Whether there is memory for all.
+fn add_clients<J: Naming + Drop>(
+    alloc: Global,
+    clients: &mut Vec<Client<J>>,
+    sessions: Vec<Session<J, Door>>,
+) -> bool {
+    let mut all = true;
+    let mut number = 0u64;
+    for session in sessions {
+        if clients
+            .push(Client::new(alloc, number, Seat::new(session)))
+            .is_err()
+        {
+            all = false;
+        }
+        number = number.saturating_add(1);
+    }
+    all
+}
+
+// The clients' sessions and notes.
+fn parted<J: Naming + Drop>(alloc: Global, clients: Vec<Client<J>>, agrees: Verdict) -> Played<J> {
+    let mut played = Played {
+        sessions: Vec::new(alloc),
+        parts: Vec::new(alloc),
+        agrees,
+    };
+    for client in clients {
+        if played.take(client).is_err() {
+            played.agrees = both(played.agrees, Err(Refusal::NoMemory));
+        }
+    }
+    played
 }

@@ -1,11 +1,15 @@
 //! Clients on threads, and what is done beside them.
-use engine_cases::{Operates, follow_all, trouble};
-use pool_cases::{Client, Many, Plan, Serves, Stage, Table, Verdict, both, follow, play};
+use engine_cases::{Seat, follow_all, trouble};
+use pool_cases::{Door, Many, Plan, Serves, Stage, Table, Verdict, both, follow, play};
 use record_key::Refusal;
 use std::alloc::{AllocError, Global};
 use std::sync::{Arc, Wait};
 use std::thread;
 use std::thread::{JoinHandle, Threads};
+use worker_pool::{Engine, Naming};
+
+/// A client of an engine.
+pub type Client<J> = pool_cases::Client<Seat<J>>;
 
 /// What a client does on its thread.
 #[derive(Drop)]
@@ -16,34 +20,34 @@ enum Task {
 
 /// A client whose thread is over, and whether all was as it is to be.
 #[derive(Drop)]
-pub struct Ended<S> {
-    client: Client<S>,
+pub struct Ended<J: Naming> {
+    client: Client<J>,
     agrees: Verdict,
 }
 
 // A client's thread. Refused where none can be made; the client is gone then.
-fn start<S, R>(
+fn start<J, R>(
     rt: R,
     alloc: Global,
-    client: Client<S>,
+    client: Client<J>,
     stage: Arc<Stage>,
     task: Task,
-) -> Result<JoinHandle<Ended<S>>, AllocError>
+) -> Result<JoinHandle<Ended<J>>, AllocError>
 where
-    S: Serves + Drop + Send + 'static,
+    J: Naming + Drop + Send + Sync + 'static,
     R: Threads + Wait + Copy + Send + 'static,
 {
     Ok(thread::spawn(&rt, move || follow_task(&rt, alloc, client, &*stage, task))?)
 }
 
 // From a client's first call to its last.
-fn follow_task<S: Serves + Drop, R: Wait>(
+fn follow_task<J: Naming + Drop, R: Wait>(
     rt: &R,
     alloc: Global,
-    client: Client<S>,
+    client: Client<J>,
     stage: &Stage,
     task: Task,
-) -> Ended<S> {
+) -> Ended<J> {
     let mut client = client;
     let agrees = perform(rt, alloc, &mut client, stage, &task);
     stage.count_over();
@@ -54,7 +58,7 @@ fn follow_task<S: Serves + Drop, R: Wait>(
 fn perform<S: Serves + Drop, R: Wait>(
     rt: &R,
     alloc: Global,
-    client: &mut Client<S>,
+    client: &mut pool_cases::Client<S>,
     stage: &Stage,
     task: &Task,
 ) -> Verdict {
@@ -68,17 +72,16 @@ fn perform<S: Serves + Drop, R: Wait>(
 }
 
 /// Does what a table says. Whether all is answered so.
-pub fn play_table<E, S, R>(
+pub fn play_table<J, R>(
     rt: R,
     alloc: Global,
-    engine: &mut E,
-    clients: &mut Vec<Client<S>>,
+    engine: &mut Engine<J, Door>,
+    clients: &mut Vec<Client<J>>,
     stage: &Arc<Stage>,
     table: &Table<'_>,
 ) -> Verdict
 where
-    E: Operates,
-    S: Serves + Drop + Send + 'static,
+    J: Naming + Drop + Send + Sync + 'static,
     R: Threads + Wait + Copy + Send + 'static,
 {
     if !table.there.is_empty() && !play_beside(rt, alloc, engine, clients, stage, table)? {
@@ -88,17 +91,16 @@ where
 }
 
 // The last client makes its calls on a thread, and what is to be done beside it is done while its message is held.
-fn play_beside<E, S, R>(
+fn play_beside<J, R>(
     rt: R,
     alloc: Global,
-    engine: &mut E,
-    clients: &mut Vec<Client<S>>,
+    engine: &mut Engine<J, Door>,
+    clients: &mut Vec<Client<J>>,
     stage: &Arc<Stage>,
     table: &Table<'_>,
 ) -> Verdict
 where
-    E: Operates,
-    S: Serves + Drop + Send + 'static,
+    J: Naming + Drop + Send + Sync + 'static,
     R: Threads + Wait + Copy + Send + 'static,
 {
     let task = Task::Lines(String::from_str(alloc, table.there)?);
@@ -121,10 +123,10 @@ where
 }
 
 // Waits for a client's thread. Whether all was as it is to be.
-fn join<S: Serves + Drop, R: Threads>(
+fn join<J: Naming + Drop, R: Threads>(
     rt: &R,
-    thread: JoinHandle<Ended<S>>,
-    clients: &mut Vec<Client<S>>,
+    thread: JoinHandle<Ended<J>>,
+    clients: &mut Vec<Client<J>>,
 ) -> Verdict {
     let Ended { client, agrees } = thread.join(rt);
     clients.push(client)?;
@@ -133,17 +135,16 @@ fn join<S: Serves + Drop, R: Threads>(
 
 /// Each client follows the plan on a thread of its own, beside its trouble. Whether the components were brought up after
 /// each crash.
-pub fn play_many<E, S, R>(
+pub fn play_many<J, R>(
     rt: R,
     alloc: Global,
-    engine: &mut E,
-    clients: &mut Vec<Client<S>>,
+    engine: &mut Engine<J, Door>,
+    clients: &mut Vec<Client<J>>,
     stage: &Arc<Stage>,
     many: &Many,
 ) -> Verdict
 where
-    E: Operates,
-    S: Serves + Drop + Send + 'static,
+    J: Naming + Drop + Send + Sync + 'static,
     R: Threads + Wait + Copy + Send + 'static,
 {
     let mut threads = Vec::with_capacity(alloc, clients.len())?;
@@ -155,16 +156,16 @@ where
     both(up, join_all(&rt, threads, clients))
 }
 
-fn start_all<S, R>(
+fn start_all<J, R>(
     rt: R,
     alloc: Global,
-    clients: &mut Vec<Client<S>>,
+    clients: &mut Vec<Client<J>>,
     stage: &Arc<Stage>,
     plan: Plan,
-    threads: &mut Vec<JoinHandle<Ended<S>>>,
+    threads: &mut Vec<JoinHandle<Ended<J>>>,
 ) -> Result<(), Refusal>
 where
-    S: Serves + Drop + Send + 'static,
+    J: Naming + Drop + Send + Sync + 'static,
     R: Threads + Wait + Copy + Send + 'static,
 {
     for _ in 0..clients.len() {
@@ -176,10 +177,10 @@ where
     Ok(())
 }
 
-fn join_all<S: Serves + Drop, R: Threads>(
+fn join_all<J: Naming + Drop, R: Threads>(
     rt: &R,
-    threads: Vec<JoinHandle<Ended<S>>>,
-    clients: &mut Vec<Client<S>>,
+    threads: Vec<JoinHandle<Ended<J>>>,
+    clients: &mut Vec<Client<J>>,
 ) -> Verdict {
     let mut agree = Ok(true);
     for thread in threads {

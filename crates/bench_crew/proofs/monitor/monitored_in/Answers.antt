@@ -1,6 +1,0 @@
-use denote.Param.Send.{sendable}
-use Rattle.monitor_engine.proofs.Sharing.{any_session_send}
-use Rattle.bench_crew.proofs.monitor.monitored_in.Goals as goal
-
-pub timed-requires-send-S : goal.timed-requires-send-S
-timed-requires-send-S g c κs within = search (any_session_send, sendable) depth 12
