@@ -1,10 +1,10 @@
 -- What a session that begins leaves of the data component, once what was performed above its end is taken back, is as
 -- it must be at every moment.
-use Rattle.std.proofs.Common.{◌≡◌, ℕ, ◌<◌, ◌≤◌, ◌==◌, true, List, [], ◌∷◌, None, map, refl, sym, ap, ◌∙◌, subst, arith, inl, inr, true≢false, eqb-true, lt-ltb, le-ltb}
-use Rattle.std.specs.Prelude.{nat_le}
+use Rattle.std.proofs.Common.{◌≡◌, ℕ, ◌<◌, ◌≤◌, ◌==◌, true, false, List, [], ◌∷◌, None, map, refl, sym, ap, ◌∙◌, subst, arith, inl, inr, true≢false, eqb-true, lt-ltb, le-ltb}
+use Rattle.std.specs.Prelude.{nat_le, not}
 use Rattle.std.specs.List.{AllByRecursion}
 use Rattle.std.specs.FinMap.{get}
-use Rattle.std.proofs.lemmas.Bool.{cases_lt, or_cases, lt-leb}
+use Rattle.std.proofs.lemmas.Bool.{cases_lt, or_cases, and_parts, lt-leb}
 use Rattle.record_key.specs.declared.entry.Entry.{Entry}
 use Rattle.record_key.specs.Table.{Bytes, Table, key_of}
 use Rattle.record_key.proofs.Lists.{all_from}
@@ -19,6 +19,7 @@ use Rattle.take_back_laws.proofs.Kept.{once_kept, falls_kept, listed_kept, answe
 use Rattle.take_back_laws.proofs.Listed.{taken_replayed}
 use Rattle.btree.specs.Leaves.{AreLeaves, leaf_at, rows_of}
 use Rattle.btree.proofs.AtKey.{all_at}
+use Rattle.btree.proofs.Carried.{AreLows}
 use Rattle.btree.proofs.Changing.{all_mapped, leaf_mapped}
 use Rattle.btree.proofs.Tiling.{there_from}
 use Rattle.btree.proofs.Together.{value_from}
@@ -27,7 +28,8 @@ use Rattle.system_txn.specs.Changes.{accepted}
 use Rattle.dc_core.specs.declared.performance.Performance.{Performance}
 use Rattle.dc_core.specs.DcView.{DcView, leaves}
 use Rattle.dc_core.specs.Serves.{MayTakeBack, kept_to, connected}
-use Rattle.dc_core.specs.Kept.{IsDc, Saves, IsListed, AreListed, for_law, for_laws, IsPerformed, ArePerformed}
+use Rattle.dc_core.specs.Kept.{IsDc, Saves, IsListed, AreListed, for_law, for_laws, IsPerformed, ArePerformed, IsShown}
+use Rattle.dc_core.proofs.LowNumbers.{shown_after}
 use Rattle.dc_core.proofs.KeepsDc.{all_both, all_for, IsCaptured, AllSave, all_save}
 use Rattle.dc_core.proofs.Stored.{stored_all}
 
@@ -83,8 +85,8 @@ saved_there p (e ∷ es) saves there =
     ]
 
 module _ (w : DcView) (end : ℕ) (k : IsDc w) (back : MayTakeBack w end) where
-  abbrev IsShown : Performance → Type 0
-  IsShown p = end < p.number → (leaf_at (leaves w) (key_of p.op)).ab.low < p.number
+  abbrev IsAboveLow : Performance → Type 0
+  IsAboveLow p = end < p.number → (leaf_at (leaves w) (key_of p.op)).ab.low < p.number
 
   -- one above the end has its entry in the leaf of its key
   abbrev HasEntry : Performance → Type 0
@@ -95,7 +97,7 @@ module _ (w : DcView) (end : ℕ) (k : IsDc w) (back : MayTakeBack w end) where
 
   all_stand : AllByRecursion Stands w.performed
   all_stand =
-      all_both (IsCaptured (leaves w)) IsShown Stands
+      all_both (IsCaptured (leaves w)) IsAboveLow Stands
       (λ p got shown over. stands (leaf_at (leaves w) (key_of p.op)) p.number got (shown over)) w.performed k.captured
       back.shown
 
@@ -171,6 +173,17 @@ module _ (w : DcView) (end : ℕ) (k : IsDc w) (back : MayTakeBack w end) where
       (λ leaf was. all_entries (IsPerformed w.opened_to all) (IsPerformed w.opened_to (listing.kept end all)) end
       (λ e listed le over. listed_kept end e all le (listed over)) leaf.ab.entries was) (leaves w) k.added
 
+  lows_new : (P : ℕ → Type 0) → AreLows P (leaves w) → AreLows P new
+  lows_new P all =
+      all_mapped (λ (leaf : LeafView). P leaf.ab.low) (λ (leaf : LeafView). P leaf.ab.low)
+      (λ leaf. leaf_taken_back leaf end) (λ leaf low. low) (leaves w) all
+
+  shown_new : AllByRecursion (IsShown w.redone_low new) (kept_to end w.performed)
+  shown_new =
+      all_left (IsShown w.redone_low (leaves w)) (IsShown w.redone_low new) end
+      (λ p was le. shown_after w.redone_low (leaves w) new lows_new
+      (λ q. ap (λ (leaf : LeafView). leaf.ab.low) (leaf_new q)) p was) w.performed k.shown
+
   module _ (s : ℕ) where
     -- with the list for the laws
     pub keeps_connected : IsSystem (connected w s end).system → IsDc (connected w s end)
@@ -186,6 +199,8 @@ module _ (w : DcView) (end : ℕ) (k : IsDc w) (back : MayTakeBack w end) where
           falls = λ q. subst (listing.FallOn q) same (falls_kept end q all (k.falls q));
           added = subst (λ (ps : List laws.Performance). AllByRecursion (ArePerformed w.opened_to ps) new) same
               added_new;
+          shown = shown_new;
+          level = λ may. absurd (true≢false (sym (and_parts (not (s == 0)) false may).1));
           session = inr refl;
           stored = omega (arith, stored_all (accepted w.system s).log);
         }

@@ -2,7 +2,7 @@
 use Rattle.std.proofs.Common.{◌≡◌, ◌≢◌, ℕ, ◌<◌, ◌≤◌, ◌==◌, true, false, List, [], ◌∷◌, length, refl, sym, ap, ◌∙◌, subst, arith, inl, inr, true≢false, eq-eqb, append-nil}
 use Rattle.std.specs.Prelude.{◌⊎◌, nat_le}
 use Rattle.std.specs.List.{AllByRecursion}
-use Rattle.std.proofs.lemmas.Bool.{or_left, or_right}
+use Rattle.std.proofs.lemmas.Bool.{cases_lt, le-leb, or_left, or_right}
 use Rattle.record_key.proofs.Lists.{all_from}
 use Rattle.record_key.specs.declared.op.Op.{Op}
 use Rattle.record_key.specs.Rows.{table_of}
@@ -17,7 +17,7 @@ use Rattle.btree.specs.Leaves.{leaf_at, rows_of}
 use Rattle.btree.specs.Performs.{performed_at}
 use Rattle.btree.specs.TreeLaw.{PerformsOne}
 use Rattle.btree.proofs.AtKey.{captured_performed, captured_not_performed}
-use Rattle.btree.proofs.Carried.{entries_performed}
+use Rattle.btree.proofs.Carried.{AreLows, entries_performed}
 use Rattle.btree.proofs.Owning.{own_leaves}
 use Rattle.btree.proofs.Stays.{performs_one}
 use Rattle.recovery_laws.specs.Recovery.{stored_session}
@@ -28,9 +28,11 @@ use Rattle.system_txn.specs.Kept.{IsSystem}
 use Rattle.dc_core.specs.declared.performance.Performance.{Performance}
 use Rattle.take_back_laws.specs.Performed as laws
 use Rattle.take_back_laws.specs.Listed as listing
-use Rattle.dc_core.specs.DcView.{DcView, leaves, captures_at, top_of}
-use Rattle.dc_core.specs.Serves.{MayPerform, with_system, performs}
-use Rattle.dc_core.specs.Kept.{IsDc, Saves, IsListed, AreListed, for_law, for_laws, IsPerformed, ArePerformed}
+use Rattle.dc_core.specs.DcView.{DcView, leaves, captures_at, top_of, top_low}
+use Rattle.dc_core.specs.Serves.{MayPerform, with_system, performs, redone}
+use Rattle.dc_core.specs.Kept.{IsDc, Saves, IsListed, AreListed, for_law, for_laws, IsPerformed, ArePerformed, IsShown, IsLevel}
+use Rattle.dc_core.specs.Tends.{may_merge}
+use Rattle.dc_core.proofs.LowNumbers.{all_each, shown_level, shown_performed, level_performed, level_redone}
 use Rattle.dc_core.proofs.Stored.{stored_all}
 
 -- what two facts give at each element
@@ -61,6 +63,9 @@ pub record Carries (w : DcView) (v : SystemView) : Type 0 where
   pub captured : (p : Performance) → IsCaptured (leaves w) p → AllSave (leaves w) p → IsCaptured v.leaves p
   pub saved : AllByRecursion (AreListed w.performed) v.leaves
   pub added : AllByRecursion (ArePerformed w.opened_to (for_laws w.performed)) v.leaves
+  pub shown : AllByRecursion (IsShown w.redone_low v.leaves) w.performed
+  pub level : may_merge w ≡ true
+      → AllByRecursion (λ (leaf : LeafView). IsLevel w.redone_low v.leaves leaf.ab.low) v.leaves
   pub stored : stored_session (beginning w.system.log w.system.stable) ≤ stored_session (beginning v.log v.stable)
 
 -- what each entry says of all performances, each performance says of all entries
@@ -95,6 +100,8 @@ keeps_carried w v k is c = record {
   answered = k.answered;
   falls = k.falls;
   added = c.added;
+  shown = c.shown;
+  level = c.level;
   session = k.session;
   stored = omega (arith, k.stored, c.stored);
 }
@@ -107,10 +114,22 @@ same_leaves w v k same stored = record {
   captured = λ p was saves. ap (λ (ls : List LeafView). captures (leaf_at ls (key_of p.op)).ab p.number) same ∙ was;
   saved = subst (AllByRecursion (AreListed w.performed)) (sym same) k.saved;
   added = subst (AllByRecursion (ArePerformed w.opened_to (for_laws w.performed))) (sym same) k.added;
+  shown = subst (λ (ls : List LeafView). AllByRecursion (IsShown w.redone_low ls) w.performed) (sym same) k.shown;
+  level = λ may. subst (λ (ls : List LeafView). AreLows (IsLevel w.redone_low ls) ls) (sym same) (k.level may);
   stored = stored;
 }
 
 -- ---- a new number
+
+-- what isn't captured is above the low number
+pub above_low : (leaf : LeafView) (n : ℕ) → captures leaf.ab n ≡ false → leaf.ab.low < n
+above_low leaf n out =
+    elim (cases_lt leaf.ab.low n) [
+      | inl above ↦ above
+      | inr within ↦
+          absurd (true≢false (sym (or_left (nat_le n leaf.ab.low) (stands_in leaf.ab.entries n)
+          (le-leb n leaf.ab.low within)) ∙ out))
+    ]
 
 module _ (w : DcView) (n : ℕ) (o : Op) (k : IsDc w) (may : MayPerform w n o)
     (out : captures_at w (key_of o) n ≡ false) where
@@ -121,7 +140,7 @@ module _ (w : DcView) (n : ℕ) (o : Op) (k : IsDc w) (may : MayPerform w n o)
   apart =
       all_both (IsCaptured (leaves w)) (λ (q : Performance). q.number ≡ n → key_of q.op ≡ key_of o) IsOther
       (λ q was on same. true≢false (sym was ∙ ap (λ (z : Bytes). captures_at w z q.number) (on same)
-      ∙ ap (captures_at w (key_of o)) same ∙ out)) w.performed k.captured may.key.listed
+      ∙ ap (captures_at w (key_of o)) same ∙ out)) w.performed k.captured (may out).0.listed
 
   abbrev now : Performance
   now = record { number = n; op = o; answer = answer_in (leaf_at (leaves w) (key_of o)).rows o }
@@ -163,7 +182,7 @@ module _ (w : DcView) (n : ℕ) (o : Op) (k : IsDc w) (may : MayPerform w n o)
       (λ leaf is keys. entry_apart leaf is.0 is.1 keys) (leaves w)
       (all_both IsOwn IsLeaf IsOwnLeaf (λ leaf own kept. (own, kept)) (leaves w)
       (own_leaves (leaves w) k.system.leaves) k.system.leaves.each)
-      may.key.saved
+      (may out).0.saved
 
   saved_old : AllByRecursion (AreListed (now ∷ w.performed)) (leaves w)
   saved_old =
@@ -192,7 +211,7 @@ module _ (w : DcView) (n : ℕ) (o : Op) (k : IsDc w) (may : MayPerform w n o)
     λ on. all_for (λ (p : laws.Performance). key_of p.op ≡ q → (p.number < n) ⊎ AreAdds o p.op) w.performed
         (all_from (λ (p : Performance). key_of p.op ≡ key_of o → (p.number < n) ⊎ AreAdds o p.op)
         (λ (p : Performance). key_of p.op ≡ q → (p.number < n) ⊎ AreAdds o p.op)
-        (λ p next at. next (at ∙ sym on)) w.performed (may.next out)),
+        (λ p next at. next (at ∙ sym on)) w.performed (may out).1),
     k.falls q,
   )
 
@@ -210,6 +229,12 @@ module _ (w : DcView) (n : ℕ) (o : Op) (k : IsDc w) (may : MayPerform w n o)
   added_new : IsAdded (record { number = n; key = key_of o; answer = now.answer })
   added_new over = inl (record { number = refl; key = refl; answer = refl })
 
+  -- it wasn't captured, so its leaf's low number is below it
+  shown_now : IsShown w.redone_low (performed_at (leaves w) n o) now
+  shown_now =
+      shown_performed (leaves w) k.system.leaves w.redone_low n o now
+      (λ over. inl (above_low (leaf_at (leaves w) (key_of o)) n out))
+
   pub keeps_performed : IsSystem (performs w n o).system → IsDc (performs w n o)
   keeps_performed is = record {
     system = is;
@@ -226,9 +251,36 @@ module _ (w : DcView) (n : ℕ) (o : Op) (k : IsDc w) (may : MayPerform w n o)
     answered = (answered_now, k.answered);
     falls = falls_now;
     added = entries_performed IsAdded (leaves w) n o added_new added_old;
+    shown = (
+      shown_now,
+      all_from (IsShown w.redone_low (leaves w)) (IsShown w.redone_low (performed_at (leaves w) n o))
+          (shown_performed (leaves w) k.system.leaves w.redone_low n o) w.performed k.shown,
+    );
+    level = λ may. level_performed (leaves w) k.system.leaves w.redone_low n o (k.level may);
     session = k.session;
     stored = k.stored;
   }
+
+-- ---- the end of redo
+
+pub keeps_redone : (w : DcView) → IsDc w → IsDc (redone w)
+keeps_redone w k =
+    let level = level_redone (leaves w) in
+    record {
+      system = k.system;
+      rows = k.rows;
+      once = k.once;
+      captured = k.captured;
+      saved = k.saved;
+      answered = k.answered;
+      falls = k.falls;
+      added = k.added;
+      shown = all_each (IsShown (top_low (leaves w)) (leaves w))
+          (shown_level (top_low (leaves w)) (leaves w) k.system.leaves level) w.performed;
+      level = λ may. level;
+      session = k.session;
+      stored = k.stored;
+    }
 
 -- ---- what performing leaves is that
 
@@ -274,6 +326,7 @@ pub keeps_opened : (v : SystemView) (stored known to : ℕ) (opened : Table) (ps
       redo = false;
       known = known;
       opened_to = to;
+      redone_low = 0;
       system = v;
       opened = opened;
       performed = ps;
@@ -285,6 +338,7 @@ keeps_opened v stored known to opened ps is stable greatest top rows none =
       redo = false;
       known = known;
       opened_to = to;
+      redone_low = 0;
       system = v;
       opened = opened;
       performed = x;
@@ -298,6 +352,8 @@ keeps_opened v stored known to opened ps is stable greatest top rows none =
       answered = tt;
       falls = λ k. tt;
       added = subst (λ (n : ℕ). AllByRecursion (ArePerformed n []) v.leaves) (sym top) (none_added [] v.leaves);
+      shown = tt;
+      level = λ may. absurd (true≢false (sym may));
       session = inl refl;
       stored = omega (
         arith,

@@ -1,19 +1,20 @@
 -- What system transactions leave of the data component is as it must be at every moment.
 use Rattle.std.proofs.Common.{◌≡◌, ℕ, ◌≤◌, ◌==◌, Bool, true, false, List, [], ◌∷◌, refl, sym, ap, ◌∙◌, subst, arith, inl, inr, eqb-true}
-use Rattle.std.specs.Prelude.{Result, Ok, Err, ◌&&◌, nat_le, if◌then◌else◌}
+use Rattle.std.specs.Prelude.{Option, Some, None, Result, Ok, Err, ◌&&◌, nat_le, if◌then◌else◌}
 use Rattle.std.specs.List.{AllByRecursion}
 use Rattle.std.proofs.lemmas.Bool.{cases_Bool, or_cases, or_left, or_right, and_from, MatchBool-at_true, MatchBool-at_false}
 use Rattle.record_key.specs.declared.refusal.Refusal.{Refusal}
 use Rattle.record_key.specs.declared.entry.Entry.{Entry}
 use Rattle.record_key.specs.Table.{Bytes, key_of}
+use Rattle.record_key.proofs.Lists.{all_from}
 use Rattle.ab_lsn.specs.AbLsn.{AbLsnView, stands_in, captures}
 use Rattle.ab_lsn.specs.Parting.{is_under, is_from, entries_with, stands_with}
 use Rattle.ab_lsn.proofs.Capturing.{parted_captures, joined_captures}
 use Rattle.page.specs.Leaf.{LeafView}
 use Rattle.btree.specs.Leaves.{leaf_at, rows_of}
-use Rattle.btree.specs.Parting.{middle}
+use Rattle.btree.specs.Parting.{middle, split_at, merged_at}
 use Rattle.btree.proofs.AtKey.{all_at, captured_raised}
-use Rattle.btree.proofs.Carried.{entries_raised, entries_split, entries_merged}
+use Rattle.btree.proofs.Carried.{AreLows, entries_raised, entries_split, entries_merged}
 use Rattle.btree.proofs.Merging.{AreJoinable, joinable, leaf_merged}
 use Rattle.btree.proofs.Splitting.{leaf_split}
 use Rattle.btree.proofs.Stays.{raised_stays, split_stays, merged_stays}
@@ -32,7 +33,9 @@ use Rattle.system_txn.specs.declared.tended.Tended.TheVariants as tended
 use Rattle.dc_core.specs.declared.performance.Performance.{Performance}
 use Rattle.dc_core.specs.DcView.{DcView, leaves, captures_at}
 use Rattle.dc_core.specs.Serves.{with_system}
-use Rattle.dc_core.specs.Kept.{IsDc, Saves, IsListed, AreListed, for_laws, IsPerformed, ArePerformed}
+use Rattle.dc_core.specs.Kept.{IsDc, Saves, IsListed, AreListed, for_laws, IsPerformed, ArePerformed, IsShown, IsLevel}
+use Rattle.dc_core.specs.Tends.{may_merge}
+use Rattle.dc_core.proofs.LowNumbers.{all_each, shown_level, shown_split, level_split, level_merged, shown_raised, level_raised}
 use Rattle.dc_core.proofs.KeepsDc.{Carries, keeps_carried, same_leaves}
 use Rattle.system_txn.proofs.Keeps.{keeps_usage}
 use Rattle.dc_core.proofs.Stored.{stored_grown, stored_forced}
@@ -95,14 +98,22 @@ carries_split w p pair v k h = subst (Carries w) (sym h.after) (record {
   added =
       entries_split (IsPerformed w.opened_to (for_laws w.performed)) (leaves w) p (next_id w.system)
       (next_number w.system) k.system.leaves h.may k.added;
+  shown =
+      all_from (IsShown w.redone_low (leaves w))
+      (IsShown w.redone_low (split_at p (next_id w.system) (next_number w.system) (leaves w)))
+      (shown_split (leaves w) k.system.leaves w.redone_low p (next_id w.system) (next_number w.system) h.may)
+      w.performed k.shown;
+  level = λ merges.
+      level_split (leaves w) k.system.leaves w.redone_low p (next_id w.system) (next_number w.system) h.may
+      (k.level merges);
   stored = stored_grown _ w.system.log w.system.stable;
 })
 
 -- ---- two neighbours joined
 
-carries_merge : (w : DcView) (p : ℕ) (pair : Neighbours) (v : SystemView) → IsDc w → Merges w.system p pair v
-    → Carries w v
-carries_merge w p pair v k h = subst (Carries w) (sym h.after) (record {
+carries_merge : (w : DcView) (p : ℕ) (pair : Neighbours) (v : SystemView) → IsDc w → may_merge w ≡ true
+    → Merges w.system p pair v → Carries w v
+carries_merge w p pair v k may h = subst (Carries w) (sym h.after) (record {
   rows = (merged_stays (leaves w) p (next_number w.system) k.system.leaves h.may).rows;
   captured = λ q was saves.
       let old : LeafView = leaf_at (leaves w) (key_of q.op) in
@@ -123,6 +134,13 @@ carries_merge w p pair v k h = subst (Carries w) (sym h.after) (record {
   saved = entries_merged (IsListed w.performed) (leaves w) p (next_number w.system) k.saved;
   added =
       entries_merged (IsPerformed w.opened_to (for_laws w.performed)) (leaves w) p (next_number w.system) k.added;
+  shown =
+      all_each (IsShown w.redone_low (merged_at p (next_number w.system) (leaves w)))
+      (shown_level w.redone_low (merged_at p (next_number w.system) (leaves w))
+      (merged_stays (leaves w) p (next_number w.system) k.system.leaves h.may).leaves
+      (level_merged (leaves w) k.system.leaves w.redone_low p (next_number w.system) (k.level may))) w.performed;
+  level = λ merges.
+      level_merged (leaves w) k.system.leaves w.redone_low p (next_number w.system) (k.level merges);
   stored = stored_grown _ w.system.log w.system.stable;
 })
 
@@ -136,6 +154,10 @@ carries_lowered w l k = record {
       ∙ or_left (captures_at w (key_of q.op) q.number) (nat_le q.number l) was;
   saved = entries_raised (IsListed w.performed) (leaves w) l k.saved;
   added = entries_raised (IsPerformed w.opened_to (for_laws w.performed)) (leaves w) l k.added;
+  shown =
+      all_from (IsShown w.redone_low (leaves w)) (IsShown w.redone_low (lowered w.system l).leaves)
+      (shown_raised w.redone_low (leaves w) k.system.leaves l) w.performed k.shown;
+  level = λ merges. level_raised w.redone_low (leaves w) k.system.leaves l (k.level merges);
   stored = omega arith;
 }
 
@@ -196,6 +218,8 @@ carries_alike w u v c h = record {
       ∙ c.captured q was saves;
   saved = subst (AllByRecursion (AreListed w.performed)) (sym h.leaves) c.saved;
   added = subst (AllByRecursion (ArePerformed w.opened_to (for_laws w.performed))) (sym h.leaves) c.added;
+  shown = subst (λ (ls : List LeafView). AllByRecursion (IsShown w.redone_low ls) w.performed) (sym h.leaves) c.shown;
+  level = λ merges. subst (λ (ls : List LeafView). AreLows (IsLevel w.redone_low ls) ls) (sym h.leaves) (c.level merges);
   stored = omega (arith, c.stored, h.stored);
 }
 
@@ -224,21 +248,29 @@ split_keeps w key (Ok pair) v k is h = keeps_carried w v k is (carries_split w _
 split_keeps w key (Err r) v k is h = keeps_carried w v k is (carries_refused w r v k h.1)
 
 pub merge_keeps : (w : DcView) (key : Bytes) (given : Result Neighbours Refusal) (v : SystemView) → IsDc w → IsSystem v
-    → MergeGives w.system key w.known given v → IsDc (with_system w v)
-merge_keeps w key (Ok pair) v k is h = keeps_carried w v k is (carries_merge w _ pair v k h.1)
-merge_keeps w key (Err r) v k is h = keeps_carried w v k is (carries_refused w r v k h.1)
+    → may_merge w ≡ true → MergeGives w.system key w.known given v → IsDc (with_system w v)
+merge_keeps w key (Ok pair) v k is may h = keeps_carried w v k is (carries_merge w _ pair v k may h.1)
+merge_keeps w key (Err r) v k is may h = keeps_carried w v k is (carries_refused w r v k h.1)
+
+-- leaves are joined only where merges are let
+merges_let : (merges : Bool) (large pair : Option ℕ) (p : ℕ)
+    → gives.tending_of large (gives.merging merges pair) ≡ gives.MergesAt p → merges ≡ true
+merges_let true large pair p is = refl
+merges_let false (Some q) pair p is = absurd (cc)
+merges_let false None pair p is = absurd (cc)
 
 carries_tended : (w : DcView) (what : gives.Tending) (done : Tended) (v : SystemView) → IsDc w
-    → gives.TendsTo w.known w.system what done v → Carries w v
-carries_tended w (gives.SplitsAt p) (tended.Split pair) v k h = carries_split w p pair v k h.1
-carries_tended w (gives.MergesAt p) (tended.Merged pair) v k h = carries_merge w p pair v k h.1
-carries_tended w gives.Rests tended.Nothing v k h = subst (Carries w) (sym h) (carries_same w k)
-carries_tended w (gives.SplitsAt p) (tended.Merged pair) v k h = absurd h
-carries_tended w (gives.SplitsAt p) tended.Nothing v k h = absurd h
-carries_tended w (gives.MergesAt p) (tended.Split pair) v k h = absurd h
-carries_tended w (gives.MergesAt p) tended.Nothing v k h = absurd h
-carries_tended w gives.Rests (tended.Split pair) v k h = absurd h
-carries_tended w gives.Rests (tended.Merged pair) v k h = absurd h
+    → ((p : ℕ) → what ≡ gives.MergesAt p → may_merge w ≡ true) → gives.TendsTo w.known w.system what done v
+    → Carries w v
+carries_tended w (gives.SplitsAt p) (tended.Split pair) v k may h = carries_split w p pair v k h.1
+carries_tended w (gives.MergesAt p) (tended.Merged pair) v k may h = carries_merge w p pair v k (may p refl) h.1
+carries_tended w gives.Rests tended.Nothing v k may h = subst (Carries w) (sym h) (carries_same w k)
+carries_tended w (gives.SplitsAt p) (tended.Merged pair) v k may h = absurd h
+carries_tended w (gives.SplitsAt p) tended.Nothing v k may h = absurd h
+carries_tended w (gives.MergesAt p) (tended.Split pair) v k may h = absurd h
+carries_tended w (gives.MergesAt p) tended.Nothing v k may h = absurd h
+carries_tended w gives.Rests (tended.Split pair) v k may h = absurd h
+carries_tended w gives.Rests (tended.Merged pair) v k may h = absurd h
 
 carries_untended : (w : DcView) (what : gives.Tending) (r : Refusal) (v : SystemView) → IsDc w
     → gives.StopsTending w.system what r v → Carries w v
@@ -247,10 +279,11 @@ carries_untended w (gives.MergesAt p) r v k h = carries_refused w r v k h.1
 carries_untended w gives.Rests r v k h = absurd h
 
 pub tend_keeps : (w : DcView) (merges : Bool) (given : Result Tended Refusal) (v : SystemView) → IsDc w → IsSystem v
-    → TendGives w.system merges w.known given v → IsDc (with_system w v)
-tend_keeps w merges (Ok done) v k is h =
-    keeps_carried w v k is (carries_tended w (tending w.system merges w.known) done v k h)
-tend_keeps w merges (Err r) v k is h =
+    → merges ≡ may_merge w → TendGives w.system merges w.known given v → IsDc (with_system w v)
+tend_keeps w merges (Ok done) v k is may h =
+    keeps_carried w v k is (carries_tended w (tending w.system merges w.known) done v k
+    (λ p merged. sym may ∙ merges_let merges _ _ p merged) h)
+tend_keeps w merges (Err r) v k is may h =
     keeps_carried w v k is (carries_untended w (tending w.system merges w.known) r v k h)
 
 pub flush_keeps : (w : DcView) (key : Bytes) (given : Result ℕ Refusal) (v : SystemView) → IsDc w → IsSystem v

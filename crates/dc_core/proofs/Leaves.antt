@@ -1,4 +1,4 @@
--- The rows of leaves, one after another, and the greatest number of their entries.
+-- The rows of leaves, one after another, the greatest number of their entries, and their greatest low number.
 use Rattle.std.proofs.Common.{◌≡◌, ℕ, ◌+◌, ◌<◌, List, [], ◌∷◌, ◌++◌, length, get_or, take, refl, sym, ap, ◌∙◌, arith, append_assoc, append-nil}
 use Rattle.std.specs.Prelude.{max}
 use Rattle.std.proofs.lemmas.List.{take_more}
@@ -6,7 +6,7 @@ use Rattle.std.specs.FinMap.{entries}
 use Rattle.page.specs.Leaf.{LeafView, first}
 use Rattle.page.specs.Tops.{top}
 use Rattle.btree.specs.Leaves.{all_rows}
-use Rattle.dc_core.specs.DcView.{top_of}
+use Rattle.dc_core.specs.DcView.{top_of, top_low}
 
 rows_after : (xs : List LeafView) (leaf : LeafView) → all_rows (xs ++ leaf ∷ []) ≡ all_rows xs ++ entries leaf.rows
 rows_after [] leaf = append-nil (entries leaf.rows)
@@ -29,3 +29,13 @@ pub top_more : (leaves : List LeafView) (p : ℕ) → p < length leaves
     → top_of (take (p + 1) leaves) ≡ max (top (get_or leaves p first)) (top_of (take p leaves))
 top_more leaves p within =
     ap top_of (take_more leaves p first within) ∙ top_after (take p leaves) (get_or leaves p first)
+
+-- their greatest low number, with one leaf more
+low_after : (xs : List LeafView) (leaf : LeafView) → top_low (xs ++ leaf ∷ []) ≡ max leaf.ab.low (top_low xs)
+low_after [] leaf = refl
+low_after (x ∷ xs) leaf = omega (arith, low_after xs leaf)
+
+pub low_more : (leaves : List LeafView) (p : ℕ) → p < length leaves
+    → top_low (take (p + 1) leaves) ≡ max (get_or leaves p first).ab.low (top_low (take p leaves))
+low_more leaves p within =
+    ap top_low (take_more leaves p first within) ∙ low_after (take p leaves) (get_or leaves p first)

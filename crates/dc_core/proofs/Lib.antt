@@ -5,6 +5,7 @@ pub mod KeepsConnected
 pub mod KeepsDc
 pub mod KeepsSystems
 pub mod Leaves
+pub mod LowNumbers
 pub mod Owed
 pub mod Recoverable
 pub mod Stored

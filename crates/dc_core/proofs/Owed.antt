@@ -1,8 +1,8 @@
 -- What the leaves tell of the performances, of which each that no low number hides has its entry.
-use Rattle.std.proofs.Common.{◌≡◌, ℕ, ◌<◌, ◌+◌, Option, None, Some, true, false, List, [], ◌∷◌, refl, ap, sym, subst, ◌∙◌, inl, inr, true≢false, arith}
-use Rattle.std.specs.Prelude.{◌⊎◌, nat_le}
+use Rattle.std.proofs.Common.{◌≡◌, ℕ, ◌<◌, ◌≤◌, ◌+◌, Option, None, Some, true, false, List, [], ◌∷◌, refl, ap, sym, subst, ◌∙◌, inl, inr, true≢false, arith}
+use Rattle.std.specs.Prelude.{◌⊎◌}
 use Rattle.std.specs.List.{AllByRecursion}
-use Rattle.std.proofs.lemmas.Bool.{cases_lt, or_left, le-leb}
+use Rattle.std.proofs.lemmas.Bool.{cases_lt}
 use Rattle.record_key.specs.declared.op.Op.{Op}
 use Rattle.record_key.specs.declared.op.Op.TheVariants.{Insert, Update, Upsert, Delete, Add}
 use Rattle.record_key.specs.declared.entry.Entry.{Entry}
@@ -10,7 +10,6 @@ use Rattle.record_key.specs.Table.{Bytes, Table, key_of, is_add, AreAdds, answer
 use Rattle.record_key.proofs.Lists.{all_from}
 use Rattle.codec.specs.declared.request.Request.{Request}
 use Rattle.codec.specs.declared.request.Request.TheVariants as asks
-use Rattle.ab_lsn.specs.AbLsn.{stands_in}
 use Rattle.page.specs.Leaf.{LeafView}
 use Rattle.take_back_laws.specs.Performed as laws
 use Rattle.take_back_laws.specs.Listed as listing
@@ -19,9 +18,9 @@ use Rattle.btree.proofs.AtKey.{all_at}
 use Rattle.dc_core.specs.declared.performance.Performance.{Performance}
 use Rattle.dc_core.specs.DcView.{DcView, leaves, captures_at}
 use Rattle.dc_core.specs.Shows.{was_added, Follows, IsOn, IsSavedOn, NoneHidden, MayCome, Shows}
-use Rattle.dc_core.specs.Kept.{IsDc, Saves, for_law, for_laws}
+use Rattle.dc_core.specs.Kept.{IsDc, Saves, IsShown, for_law, for_laws}
 use Rattle.dc_core.specs.Serves.{ComesNext, MayAsk}
-use Rattle.dc_core.proofs.KeepsDc.{all_both, IsCaptured, AllSave, all_save}
+use Rattle.dc_core.proofs.KeepsDc.{all_both, above_low, IsCaptured, AllSave, all_save}
 use Rattle.dc_core.proofs.KeepsConnected.{stands, saved_there}
 
 -- what is so of each entry is so of that of a performance
@@ -66,20 +65,24 @@ module _ (w : DcView) (k : IsDc w) where
       saves) (stands (leaf_at (leaves w) (key_of p.op)) p.number got above)) w.performed k.captured
       (all_save w.performed (leaves w) k.saved)
 
-  -- the number is on this key
-  listed_on : (n : ℕ) (key : Bytes) → NoneHidden w n → IsSavedOn w n key
-      → AllByRecursion (λ (p : Performance). p.number ≡ n → key_of p.op ≡ key) w.performed
-  listed_on n key low on =
-      all_from HasEntry (λ (p : Performance). p.number ≡ n → key_of p.op ≡ key)
-      (λ p has same.
-      let q : Bytes = key_of p.op in
-      let leaf : LeafView = leaf_at (leaves w) q in
-      let below : leaf.ab.low < n =
-      all_at (λ (l : LeafView). l.ab.low < n) (leaves w) q k.system.leaves low in
-      saved_has (IsOn n key) (key_of p.op ≡ key) (for_law p) leaf.ab.entries
-      (λ e of its. of.key ∙ its (sym of.number ∙ same))
-      (all_at (λ (l : LeafView). AllByRecursion (IsOn n key) l.ab.entries) (leaves w) q k.system.leaves on)
-      (has (omega (arith, below, same)))) w.performed have_entries
+  -- the number is on this key: a performance of it has its entry, since what hides it everywhere would capture it here
+  listed_on : (n : ℕ) (o : Op) → captures_at w (key_of o) n ≡ false → w.redone_low < n → IsSavedOn w n (key_of o)
+      → AllByRecursion (λ (p : Performance). p.number ≡ n → key_of p.op ≡ key_of o) w.performed
+  listed_on n o out over on =
+      all_both HasEntry (IsShown w.redone_low (leaves w))
+      (λ (p : Performance). p.number ≡ n → key_of p.op ≡ key_of o)
+      (λ p has shown same. elim (shown (omega (arith, over, same))) [
+        | inl below ↦
+            saved_has (IsOn n (key_of o)) (key_of p.op ≡ key_of o) (for_law p)
+            (leaf_at (leaves w) (key_of p.op)).ab.entries (λ e of its. of.key ∙ its (sym of.number ∙ same))
+            (all_at (λ (l : LeafView). AllByRecursion (IsOn n (key_of o)) l.ab.entries) (leaves w) (key_of p.op)
+            k.system.leaves on) (has below)
+        | inr all ↦
+            let here : p.number ≤ (leaf_at (leaves w) (key_of o)).ab.low =
+            all_at (λ (l : LeafView). p.number ≤ l.ab.low) (leaves w) (key_of o) k.system.leaves all in
+            let above = above_low (leaf_at (leaves w) (key_of o)) n out in
+            absurd (omega (arith, here, above, same))
+      ]) w.performed have_entries k.shown
 
   -- a new operation comes after those on its key
   comes_next : (n : ℕ) (o : Op) → MayCome w n o → captures_at w (key_of o) n ≡ false → ComesNext w n o
@@ -91,13 +94,7 @@ module _ (w : DcView) (k : IsDc w) where
       low = (leaf_at (leaves w) (key_of o)).ab.low
 
       above : low < n
-      above =
-          elim (cases_lt low n) [
-            | inl lt ↦ lt
-            | inr le ↦
-                absurd (true≢false (sym (or_left (nat_le n low)
-                (stands_in (leaf_at (leaves w) (key_of o)).ab.entries n) (le-leb n low le)) ∙ out))
-          ]
+      above = above_low (leaf_at (leaves w) (key_of o)) n out
 
       follow : (p : Performance) → IsAdd p → key_of p.op ≡ key_of o → (e : Entry) → listing.IsOf (for_law p) e
           → Follows n o e → (p.number < n) ⊎ AreAdds o p.op
@@ -115,7 +112,7 @@ module _ (w : DcView) (k : IsDc w) where
             | inl over ↦
                 saved_has (Follows n o) ((p.number < n) ⊎ AreAdds o p.op) (for_law p)
                 (leaf_at (leaves w) (key_of p.op)).ab.entries (follow p adds on)
-                (subst (λ (l : LeafView). AllByRecursion (Follows n o) l.ab.entries) (sym same) (may out))
+                (subst (λ (l : LeafView). AllByRecursion (Follows n o) l.ab.entries) (sym same) may)
                 (has (omega (arith, over, lows)))
             | inr under ↦ inl (omega (arith, under, above))
           ]
@@ -139,12 +136,9 @@ module _ (w : DcView) (k : IsDc w) where
       let it = shows allowed begins in
       record { opened = it.0; shown = none_hidden end it.1 }
   owed (asks.Perform s n stable o) shows =
-      λ allowed.
-      let it = shows allowed in
-      record {
-        key = record { listed = listed_on n (key_of o) it.0.0 it.0.1; saved = it.0.1 };
-        next = comes_next n o it.1;
-      }
+      λ allowed out.
+      let it = shows allowed out in
+      (record { listed = listed_on n o out it.0.0 it.0.1; saved = it.0.1 }, comes_next n o it.1 out)
   owed (asks.Get s r key) shows = tt
   owed (asks.Scan s r low high) shows = tt
   owed (asks.LowWater s l) shows = tt

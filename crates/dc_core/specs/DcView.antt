@@ -11,15 +11,16 @@ use Rattle.system_txn.specs.SystemView.{SystemView, fresh_system}
 use Rattle.dc_core.specs.declared.performance.Performance.{Performance}
 
 -- the greatest session taken and the one that runs, 0 if none; whether redo goes on; up to which number no request is
--- lost any more, as far as is known, and the greatest number of an entry when the leaves were opened, 0 if none; the
--- leaves with their log and pages; and the records when they were opened, with what was performed since and wasn't
--- taken back, the newest first
+-- lost any more, as far as is known; the greatest number of an entry when the leaves were opened, 0 if none; the
+-- greatest low number when redo last ended, 0 if it hasn't since they were opened; the leaves with their log and pages;
+-- and the records when they were opened, with what was performed since and wasn't taken back, the newest first
 pub record DcView : Type 0 where
   pub stored : ℕ
   pub session : ℕ
   pub redo : Bool
   pub known : ℕ
   pub opened_to : ℕ
+  pub redone_low : ℕ
   pub system : SystemView
   pub opened : Table
   pub performed : List Performance
@@ -43,6 +44,7 @@ fresh_dc log_usage page_usage = record {
   redo = false;
   known = 0;
   opened_to = 0;
+  redone_low = 0;
   system = fresh_system log_usage page_usage;
   opened = map.empty;
   performed = [];
@@ -52,3 +54,8 @@ fresh_dc log_usage page_usage = record {
 abbrev pub top_of : List LeafView → ℕ
 top_of [] = 0
 top_of (leaf ∷ leaves) = max (top leaf) (top_of leaves)
+
+-- the greatest low number of the leaves, 0 if there is none
+abbrev pub top_low : List LeafView → ℕ
+top_low [] = 0
+top_low (leaf ∷ leaves) = max leaf.ab.low (top_low leaves)

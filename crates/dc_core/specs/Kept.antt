@@ -6,12 +6,13 @@ use Rattle.record_key.specs.declared.entry.Entry.{Entry}
 use Rattle.page.specs.Leaf.{LeafView}
 use Rattle.take_back_laws.specs.Performed as laws
 use Rattle.take_back_laws.specs.Listed as listing
-use Rattle.btree.specs.Leaves.{rows_of}
+use Rattle.btree.specs.Leaves.{leaf_at, rows_of}
 use Rattle.framed_log.specs.Beginning.{beginning}
 use Rattle.recovery_laws.specs.Recovery.{stored_session}
 use Rattle.system_txn.specs.Kept.{IsSystem}
 use Rattle.dc_core.specs.declared.performance.Performance.{Performance}
 use Rattle.dc_core.specs.DcView.{DcView, leaves, captures_at}
+use Rattle.dc_core.specs.Tends.{may_merge}
 
 -- an entry of a performance's number has its key and its answer
 abbrev pub Saves : Performance → Entry → Type 0
@@ -37,6 +38,16 @@ IsPerformed end ps e = end < e.number → listing.IsListed ps e
 abbrev pub ArePerformed : ℕ → List laws.Performance → LeafView → Type 0
 ArePerformed end ps leaf = AllByRecursion (IsPerformed end ps) leaf.ab.entries
 
+-- a number above this is hidden by the low number of its own key's leaf only where that of each leaf hides it
+abbrev pub IsShown : ℕ → List LeafView → Performance → Type 0
+IsShown n ls p =
+    n < p.number
+    → ((leaf_at ls (key_of p.op)).ab.low < p.number) ⊎ AllByRecursion (λ (leaf : LeafView). p.number ≤ leaf.ab.low) ls
+
+-- a low number isn't above this, or above that of any leaf
+abbrev pub IsLevel : ℕ → List LeafView → ℕ → Type 0
+IsLevel n ls low = (low ≤ n) ⊎ AllByRecursion (λ (leaf : LeafView). low ≤ leaf.ab.low) ls
+
 -- what holds of a data component at every moment
 pub record IsDc (w : DcView) : Type 0 where
   pub system : IsSystem w.system
@@ -51,6 +62,11 @@ pub record IsDc (w : DcView) : Type 0 where
   pub answered : laws.AreAnsweredInPlace w.opened (for_laws w.performed)
   pub falls : (k : Bytes) → listing.FallOn k (for_laws w.performed)
   pub added : AllByRecursion (ArePerformed w.opened_to (for_laws w.performed)) (leaves w)
+  -- above the greatest low number when redo last ended, none is hidden on one leaf alone; and while leaves may be joined
+  -- their low numbers are no higher, or the same everywhere
+  pub shown : AllByRecursion (IsShown w.redone_low (leaves w)) w.performed
+  pub level : may_merge w ≡ true
+      → AllByRecursion (λ (leaf : LeafView). IsLevel w.redone_low (leaves w) leaf.ab.low) (leaves w)
   -- the session that runs, if any, is the greatest one taken, and the stable log has one at least as great
   pub session : (w.session ≡ 0) ⊎ (w.session ≡ w.stored)
   pub stored : w.stored ≤ stored_session (beginning w.system.log w.system.stable)

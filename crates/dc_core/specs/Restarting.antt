@@ -14,6 +14,7 @@ restarted v = record {
   redo = false;
   known = top_of v.leaves;
   opened_to = top_of v.leaves;
+  redone_low = 0;
   system = v;
   opened = rows_of v.leaves;
   performed = [];

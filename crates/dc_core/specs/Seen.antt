@@ -9,6 +9,7 @@ seen d = record {
   redo = d.redo;
   known = d.known;
   opened_to = d.opened_to;
+  redone_low = d.redone_low;
   system = d.system;
   opened = d.opened.table;
   performed = d.performed.list.items;

@@ -21,7 +21,7 @@ use Rattle.system_txn.specs.SystemView.{SystemView}
 use Rattle.system_txn.specs.Changes.{lowered, accepted, forced, taken_back}
 use Rattle.system_txn.specs.Gives.{is_spent, CheckpointGives, AcceptGives}
 use Rattle.dc_core.specs.declared.performance.Performance.{Performance}
-use Rattle.dc_core.specs.DcView.{DcView, leaves, captures_at, value_at}
+use Rattle.dc_core.specs.DcView.{DcView, leaves, captures_at, value_at, top_low}
 
 -- this session runs
 abbrev pub runs : DcView → ℕ → Bool
@@ -62,10 +62,9 @@ abbrev pub ComesNext : DcView → ℕ → Op → Type 0
 ComesNext w n o =
     AllByRecursion (λ (p : Performance). key_of p.op ≡ key_of o → (p.number < n) ⊎ AreAdds o p.op) w.performed
 
--- a request keeps to its number's key, and a new one comes after the others there
-pub record MayPerform (w : DcView) (n : ℕ) (o : Op) : Type 0 where
-  pub key : KeepsKey w n (key_of o)
-  pub next : captures_at w (key_of o) n ≡ false → ComesNext w n o
+-- a request that the leaf of its key hasn't captured keeps to its number's key, and comes after the others there
+abbrev pub MayPerform : DcView → ℕ → Op → Type 0
+MayPerform w n o = captures_at w (key_of o) n ≡ false → KeepsKey w n (key_of o) × ComesNext w n o
 
 -- what is above the end can be taken back: it was performed since the leaves were opened, and no low number has hidden
 -- it
@@ -98,6 +97,10 @@ connected w s end = record w {
   system = taken_back (forced (accepted w.system s)) end;
   performed = kept_to end w.performed;
 }
+
+-- redo has ended: the low numbers of leaves that may be joined from now on are known
+abbrev pub redone : DcView → DcView
+redone w = record w { redo = false; redone_low = top_low (leaves w) }
 
 -- no request up to this number is lost any more
 abbrev pub knows : DcView → ℕ → DcView
@@ -133,7 +136,7 @@ Serves old (asks.LowWater s l) reply new = (reply ≡ None) × (new ≡ lowers o
 Serves old (asks.Checkpoint s l) reply new =
     (reply ≡ Some (says.Checkpointed s l)) × CheckpointGives old.system l old.known (Ok tt) new.system
     × (new ≡ with_system old new.system)
-Serves old (asks.RedoEnd s) reply new = (reply ≡ Some (says.RedoEnded s)) × (new ≡ record old { redo = false })
+Serves old (asks.RedoEnd s) reply new = (reply ≡ Some (says.RedoEnded s)) × (new ≡ redone old)
 Serves old (asks.StableEnd s stable) reply new = (reply ≡ None) × (new ≡ knows old stable)
 
 -- memory was refused, and nothing has changed

@@ -34,13 +34,15 @@ IsSavedOn w n k = AllByRecursion (λ (leaf : LeafView). AllByRecursion (IsOn n k
 abbrev pub NoneHidden : DcView → ℕ → Type 0
 NoneHidden w n = AllByRecursion (λ (leaf : LeafView). leaf.ab.low < n) (leaves w)
 
--- the number is captured on the key, or the operation may follow each entry of the leaf there
+-- the operation may follow each entry of its key's leaf
 abbrev pub MayCome : DcView → ℕ → Op → Type 0
-MayCome w n o =
-    captures_at w (key_of o) n ≡ false → AllByRecursion (Follows n o) (leaf_at (leaves w) (key_of o)).ab.entries
+MayCome w n o = AllByRecursion (Follows n o) (leaf_at (leaves w) (key_of o)).ab.entries
 
+-- the number is captured on the key; or it is above the greatest low number when redo last ended, is on no other key, and
+-- the operation may come
 abbrev pub ShowsPerform : DcView → ℕ → Op → Type 0
-ShowsPerform w n o = (NoneHidden w n × IsSavedOn w n (key_of o)) × MayCome w n o
+ShowsPerform w n o =
+    captures_at w (key_of o) n ≡ false → ((w.redone_low < n) × IsSavedOn w n (key_of o)) × MayCome w n o
 
 abbrev pub ShowsTakeBack : DcView → ℕ → Type 0
 ShowsTakeBack w end = (w.opened_to ≤ end) × NoneHidden w (end + 1)

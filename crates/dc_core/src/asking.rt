@@ -16,9 +16,10 @@ use stable::{LogDevice, PageDevice};
 impl<D: LogDevice, P: PageDevice> Dc<D, P> {
     /// What a caller asks who doesn't know a request's numbers: whether the leaves tell that each is below 2^48; that an
     /// operation's number is on the key that it has among the performances and in each leaf's entries, and a new one
-    /// comes after those performed on its key; and that what was performed above the end of a session that begins can
-    /// be taken back. They don't tell of what a low number has hidden: no where an operation's number isn't above each
-    /// low one, or an end is below one. It reads all leaves, so a caller that knows its numbers doesn't ask.
+    /// comes after those performed on its key, unless its key's leaf has captured it; and that what was performed above
+    /// the end of a session that begins can be taken back. They don't tell of what a low number has hidden: no where a
+    /// number that isn't captured isn't above the greatest low one when redo last ended, or an end is below a low one.
+    /// It reads all leaves, so a caller that knows its numbers doesn't ask.
     pub fn may_ask(&self, request: &Request) -> bool
         ensures told { IsTrue result ↔ (HasRequestNumbers request.now × Shows self.now request.now) }
         ensures owed { IsTrue result → HasRequestNumbers request.now × MayAsk self.now request.now }
@@ -73,19 +74,19 @@ impl<D: LogDevice, P: PageDevice> Dc<D, P> {
     fn may_perform(&self, number: u64, op: &Op) -> bool
         ensures { IsTrue result ↔ ShowsPerform self.now number op.now }
     {
-        self.none_hidden(number) && self.is_saved_on(number, op.key()) && self.may_come(number, op)
+        self.captures(number, op.key()) || self.is_next(number, op)
     }
 
-    fn may_come(&self, number: u64, op: &Op) -> bool
-        ensures { IsTrue result ↔ MayCome self.now number op.now }
+    fn is_next(&self, number: u64, op: &Op) -> bool
+        ensures { IsTrue result
+            ↔ (((self.now.redone_low < number) × IsSavedOn self.now number (key_of op.now)) × MayCome self.now number op.now) }
     {
-        self.captures(number, op.key()) || self.comes_next(number, op)
+        self.redone_low < number && self.is_saved_on(number, op.key()) && self.may_come(number, op)
     }
 
     /// Whether each entry on the operation's key has a lower number, or both are Adds.
-    fn comes_next(&self, number: u64, op: &Op) -> bool
-        ensures { IsTrue result ↔ AllByRecursion (Follows number op.now)
-            (leaf_at (leaves self.now) (key_of op.now)).ab.entries }
+    fn may_come(&self, number: u64, op: &Op) -> bool
+        ensures { IsTrue result ↔ MayCome self.now number op.now }
     {
         let place = self.system.place_of(op.key());
         follows_all(self.system.leaf(place).entries(), number, op)

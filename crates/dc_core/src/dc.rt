@@ -34,6 +34,8 @@ pub struct Dc<D: LogDevice = MemLog, P: PageDevice = MemPages> {
     pub(crate) known: u64,
     // The greatest number of an entry when these leaves were opened, 0 if none.
     pub(crate) opened_to: u64,
+    // The greatest low number when redo last ended, 0 if it hasn't since these leaves were opened.
+    pub(crate) redone_low: u64,
     pub(crate) system: System<D, P>,
     // The records when these leaves were opened.
     pub(crate) opened: Base,
@@ -81,6 +83,7 @@ impl<D: LogDevice, P: PageDevice> Dc<D, P> {
             redo: false,
             known: 0,
             opened_to: 0,
+            redone_low: 0,
             system,
             opened,
             performed: Performances::new(),
@@ -117,6 +120,7 @@ impl<D: LogDevice, P: PageDevice> Dc<D, P> {
             redo: false,
             known: top,
             opened_to: top,
+            redone_low: 0,
             system: opened.system,
             opened: base,
             performed: Performances::new(),
@@ -140,6 +144,7 @@ impl<D: LogDevice, P: PageDevice> Dc<D, P> {
             redo: _,
             known: _,
             opened_to: _,
+            redone_low: _,
             system,
             opened: _,
             performed: _,

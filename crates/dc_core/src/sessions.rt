@@ -2,9 +2,10 @@
 ghost use Rattle.std.specs.Prelude.{◌≡◌, ◌<◌, ◌^◌, false, None, Some, Ok, Err, IfOk, IfErr, OnOk, OnErr};
 ghost use Rattle.system_txn.specs.Gives.{append_refusal, AcceptGives};
 ghost use Rattle.dc_core.specs.Serves.{runs, connect_refusal, MayTakeBack, with_system, connected, knows};
-ghost use Rattle.dc_core.specs.Serves.{lowers, Serves, Stops};
+ghost use Rattle.dc_core.specs.Serves.{lowers, redone, Serves, Stops};
 
 use crate::dc::Dc;
+use crate::system::top_low;
 use codec::{Reply, Request};
 use record_key::Refusal;
 use stable::{LogDevice, PageDevice};
@@ -78,8 +79,9 @@ impl<D: LogDevice, P: PageDevice> Dc<D, P> {
 
     pub(crate) fn end_redo(&mut self, session: u64) -> Reply
         ensures reply { result ≡ Reply.RedoEnded session }
-        ensures ended { self.new ≡ record self.old { redo = false } }
+        ensures ended { self.new ≡ redone self.old }
     {
+        self.redone_low = top_low(&self.system);
         self.redo = false;
         Reply::RedoEnded { session }
     }

@@ -1,6 +1,6 @@
 //! What the component keeps its leaves in.
 ghost use Rattle.std.specs.Prelude.{◌≡◌};
-ghost use Rattle.dc_core.specs.DcView.{top_of};
+ghost use Rattle.dc_core.specs.DcView.{top_of, top_low};
 
 use btree::Tree;
 use stable::{LogDevice, PageDevice};
@@ -16,6 +16,17 @@ pub fn top_of<D: LogDevice, P: PageDevice>(system: &System<D, P>) -> u64
     let mut most = 0;
     for place in 0..system.len() {
         most = system.leaf(place).top().max(most);
+    }
+    most
+}
+
+/// The greatest low number of the leaves, 0 if there is none.
+pub fn top_low<D: LogDevice, P: PageDevice>(system: &System<D, P>) -> u64
+    ensures { result ≡ top_low system.now.leaves }
+{
+    let mut most = 0;
+    for place in 0..system.len() {
+        most = system.leaf(place).low().max(most);
     }
     most
 }

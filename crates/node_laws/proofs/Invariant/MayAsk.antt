@@ -79,12 +79,12 @@ may_ask w (asks.Connect s end) k sent =
     λ allowed isnt.
     subst (MayTakeBack w.dc) (sym (sent.next (connect_later w.dc s allowed isnt)).1) (may_take_back w k)
 may_ask w (asks.Perform s n stable o) k sent =
-    λ allowed.
+    λ allowed out.
     let next = sent.1.holds (let_runs w.dc s allowed) in
-    record {
-      key = record { listed = listed w k n o next.requests; saved = saved w k n o next.requests };
-      next = comes_next w k n o next.requests;
-    }
+    (
+      record { listed = listed w k n o next.requests; saved = saved w k n o next.requests },
+      comes_next w k n o next.requests out,
+    )
 may_ask w (asks.Get s n key) k sent = tt
 may_ask w (asks.Scan s n low high) k sent = tt
 may_ask w (asks.LowWater s l) k sent = tt

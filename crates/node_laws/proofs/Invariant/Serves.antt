@@ -34,7 +34,7 @@ use Rattle.logical_log.specs.LogView.{last_not_session}
 use Rattle.dc_core.specs.system_txn.specs.Gives.{HaveImages, CheckpointGives, StopsCheckpoint, AcceptGives}
 use Rattle.dc_core.specs.DcView.{DcView, leaves, captures_at, value_at}
 use Rattle.dc_core.specs.Kept.{IsDc}
-use Rattle.dc_core.specs.Serves.{Serves, ServeGives, Stops, StopsUnless, serve_refusal, runs, with_system, connected, knows, performs, lowers, range}
+use Rattle.dc_core.specs.Serves.{Serves, ServeGives, Stops, StopsUnless, serve_refusal, runs, with_system, connected, knows, performs, lowers, redone, range}
 use Rattle.dc_core.specs.Tends.{may_merge}
 use Rattle.dc_core.proofs.Recoverable.{recoverable_served}
 use Rattle.dc_core.proofs.Checked.{checked_served, checkpoint_checked}
@@ -80,7 +80,7 @@ begins_over phase.Running c session log dc s end is h less most = absurd (omega 
 
 -- the end of redo is one in every phase
 past_redo : (at : Phase) (session : ℕ) (log : List Record) (dc : DcView) → IsServed at session log dc
-    → IsServed at session log (record dc { redo = false })
+    → IsServed at session log (redone dc)
 past_redo phase.Unconnected session log dc h = tt
 past_redo phase.Connecting session log dc h = h
 past_redo (phase.Redoing next ending) session log dc h = h
@@ -144,11 +144,11 @@ connects w s k is recoverable checks most less =
           most.most;
     })
 
-redo_ends : (w : NodeView) (s : ℕ) (k : IsKept w) → IsDc (record w.dc { redo = false }) → runs w.dc s ≡ true
+redo_ends : (w : NodeView) (s : ℕ) (k : IsKept w) → IsDc (redone w.dc) → runs w.dc s ≡ true
     → IsSent w.tc w.dc k.source (asks.RedoEnd s)
-    → IsKept (replied w (record w.dc { redo = false }) (Some (says.RedoEnded s)))
+    → IsKept (replied w (redone w.dc) (Some (says.RedoEnded s)))
 redo_ends w s k is running sent =
-    let dc : DcView = record w.dc { redo = false } in
+    let dc : DcView = redone w.dc in
     keeps_dc w dc k
     (record {
       captured = λ n o asks h. h;
@@ -299,7 +299,7 @@ serves w (asks.Checkpoint s l) reply dc k is rec checks sent allowed h =
     (checkpoints w l s dc k is rec checks past.past (sent.holds past.runs) h.1.within h.1.fit
     (checkpoint_checked w.dc s l reply dc k.dc k.recoverable h) (h.2 ∙ ap (with_system w.dc) h.1.after))
 serves w (asks.RedoEnd s) reply dc k is rec checks sent allowed h =
-    goes w dc (record w.dc { redo = false }) reply (Some (says.RedoEnded s)) h.0 h.1
+    goes w dc (redone w.dc) reply (Some (says.RedoEnded s)) h.0 h.1
     (redo_ends w s k (subst IsDc h.1 is) (let_runs w.dc s allowed) sent)
 serves w (asks.StableEnd s stable) reply dc k is rec checks sent allowed h =
     goes w dc (knows w.dc stable) reply None h.0 h.1

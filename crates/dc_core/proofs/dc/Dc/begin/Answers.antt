@@ -20,6 +20,7 @@ invariant_of-self-2 g c =
       redo = true;
       known = c.args.session;
       opened_to = w.opened_to;
+      redone_low = w.redone_low;
       system = c.accept-accepted.new.self;
       opened = w.opened;
       performed = c.up_to-self-inside.result.list.items;

@@ -23,6 +23,7 @@ returns-clause-fresh g c =
       redo = false;
       known = 0;
       opened_to = 0;
+      redone_low = 0;
       system = fresh i;
       opened = rows i;
       performed = c.new-2.ensures i;

@@ -5,7 +5,7 @@ use Rattle.page.specs.Leaf.{LeafView}
 use Rattle.btree.specs.Leaves.{leaf_at}
 use Rattle.system_txn.proofs.Places.{leaf_there}
 use Rattle.dc_core.specs.Shows.{Follows}
-use Rattle.dc_core.proofs.dc.Dc.comes_next.Goals as goal
+use Rattle.dc_core.proofs.dc.Dc.may_come.Goals as goal
 
 pub returns : goal.returns
 returns g c =
