@@ -137,8 +137,9 @@ module _ (w : DcView) (k : IsDc w) where
       record { opened = it.0; shown = none_hidden end it.1 }
   owed (asks.Perform s n stable o) shows =
       λ allowed out.
-      let it = shows allowed out in
-      (record { listed = listed_on n o out it.0.0 it.0.1; saved = it.0.1 }, comes_next n o it.1 out)
+      let it = shows allowed in
+      let next = it.1 out in
+      (record { listed = listed_on n o out next.0 it.0; saved = it.0 }, comes_next n o next.1 out)
   owed (asks.Get s r key) shows = tt
   owed (asks.Scan s r low high) shows = tt
   owed (asks.LowWater s l) shows = tt

@@ -38,11 +38,11 @@ NoneHidden w n = AllByRecursion (λ (leaf : LeafView). leaf.ab.low < n) (leaves 
 abbrev pub MayCome : DcView → ℕ → Op → Type 0
 MayCome w n o = AllByRecursion (Follows n o) (leaf_at (leaves w) (key_of o)).ab.entries
 
--- the number is captured on the key; or it is above the greatest low number when redo last ended, is on no other key, and
--- the operation may come
+-- the number is on no other key; and where it isn't captured on this one it is above the greatest low number when redo
+-- last ended, and the operation may come
 abbrev pub ShowsPerform : DcView → ℕ → Op → Type 0
 ShowsPerform w n o =
-    captures_at w (key_of o) n ≡ false → ((w.redone_low < n) × IsSavedOn w n (key_of o)) × MayCome w n o
+    IsSavedOn w n (key_of o) × (captures_at w (key_of o) n ≡ false → (w.redone_low < n) × MayCome w n o)
 
 abbrev pub ShowsTakeBack : DcView → ℕ → Type 0
 ShowsTakeBack w end = (w.opened_to ≤ end) × NoneHidden w (end + 1)

@@ -4,7 +4,7 @@ ghost use Rattle.std.specs.List.{AllByRecursion};
 ghost use Rattle.record_key.specs.Table.{key_of};
 ghost use Rattle.codec.specs.Requests.{HasRequestNumbers};
 ghost use Rattle.btree.specs.Leaves.{leaf_at};
-ghost use Rattle.dc_core.specs.DcView.{leaves};
+ghost use Rattle.dc_core.specs.DcView.{captures_at, leaves};
 ghost use Rattle.dc_core.specs.Serves.{runs, connect_refusal, MayAsk};
 ghost use Rattle.dc_core.specs.Shows.{was_added, Follows, IsOn, IsSavedOn, NoneHidden, MayCome, ShowsPerform, ShowsTakeBack, Shows};
 
@@ -15,11 +15,11 @@ use stable::{LogDevice, PageDevice};
 
 impl<D: LogDevice, P: PageDevice> Dc<D, P> {
     /// What a caller asks who doesn't know a request's numbers: whether the leaves tell that each is below 2^48; that an
-    /// operation's number is on the key that it has among the performances and in each leaf's entries, and a new one
-    /// comes after those performed on its key, unless its key's leaf has captured it; and that what was performed above
-    /// the end of a session that begins can be taken back. They don't tell of what a low number has hidden: no where a
-    /// number that isn't captured isn't above the greatest low one when redo last ended, or an end is below a low one.
-    /// It reads all leaves, so a caller that knows its numbers doesn't ask.
+    /// operation's number is on the key that it has among the performances and in each leaf's entries, and, where its
+    /// key's leaf hasn't captured it, comes after those performed on its key; and that what was performed above the end of
+    /// a session that begins can be taken back. They don't tell of what a low number has hidden: no where a number that
+    /// isn't captured isn't above the greatest low one when redo last ended, or an end is below a low one. It reads all
+    /// leaves, so a caller that knows its numbers doesn't ask.
     pub fn may_ask(&self, request: &Request) -> bool
         ensures told { IsTrue result ↔ (HasRequestNumbers request.now × Shows self.now request.now) }
         ensures owed { IsTrue result → HasRequestNumbers request.now × MayAsk self.now request.now }
@@ -74,14 +74,21 @@ impl<D: LogDevice, P: PageDevice> Dc<D, P> {
     fn may_perform(&self, number: u64, op: &Op) -> bool
         ensures { IsTrue result ↔ ShowsPerform self.now number op.now }
     {
+        self.is_saved_on(number, op.key()) && self.is_captured_or_next(number, op)
+    }
+
+    fn is_captured_or_next(&self, number: u64, op: &Op) -> bool
+        ensures { IsTrue result
+            ↔ (captures_at self.now (key_of op.now) number ≡ false
+            → (self.now.redone_low < number) × MayCome self.now number op.now) }
+    {
         self.captures(number, op.key()) || self.is_next(number, op)
     }
 
     fn is_next(&self, number: u64, op: &Op) -> bool
-        ensures { IsTrue result
-            ↔ (((self.now.redone_low < number) × IsSavedOn self.now number (key_of op.now)) × MayCome self.now number op.now) }
+        ensures { IsTrue result ↔ ((self.now.redone_low < number) × MayCome self.now number op.now) }
     {
-        self.redone_low < number && self.is_saved_on(number, op.key()) && self.may_come(number, op)
+        self.redone_low < number && self.may_come(number, op)
     }
 
     /// Whether each entry on the operation's key has a lower number, or both are Adds.
