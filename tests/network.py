@@ -21,7 +21,7 @@ import tempfile
 import time
 
 LOSS, TWICE, LATE, NOISE = 0.3, 0.2, 0.2, 0.02
-CHECKPOINTS = 0  # how often leaves are written to pages: a redo from before that may be asked forever (docs/TESTS.md)
+CHECKPOINTS = 0.05  # how often the leaves are written to pages after a transaction
 WRITING = 0.1  # how often a request to write pages is answered by a kill
 TICK = 0.001  # seconds without any message until the transaction component is sent a tick
 HEAD = struct.Struct(">Q")

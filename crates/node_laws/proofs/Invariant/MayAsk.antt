@@ -80,8 +80,7 @@ may_ask w (asks.Connect s end) k sent =
     subst (MayTakeBack w.dc) (sym (sent.next (connect_later w.dc s allowed isnt)).1) (may_take_back w k)
 may_ask w (asks.Perform s n stable o) k sent =
     λ allowed out.
-    let next = sent.1.holds (let_runs w.dc s allowed) in
-    (
+    let next = sent.1.holds (let_runs w.dc s allowed) in (
       record { listed = listed w k n o next.requests; saved = saved w k n o next.requests },
       comes_next w k n o next.requests out,
     )
