@@ -21,7 +21,7 @@ import tempfile
 import time
 
 LOSS, TWICE, LATE, NOISE = 0.3, 0.2, 0.2, 0.02
-CHECKPOINTS = 0.05  # how often the leaves are written to pages after a transaction
+CHECKPOINTS, LOWS = 0.05, 0.1  # how often a transaction is followed by leaves written to pages, or by a low number
 WRITING = 0.1  # how often a request to write pages is answered by a kill
 TICK = 0.001  # seconds without any message until the transaction component is sent a tick
 HEAD = struct.Struct(">Q")
@@ -141,9 +141,9 @@ class Model:
         return None
 
 
-def lines_of(rng, count):
-    """A script of about so many operations, whose transactions come one after another."""
-    lines, number = ["settle"], 0
+def lines_of(rng, count, before):
+    """A script of about so many operations, whose transactions come one after another, on a log of so many before."""
+    lines, number, logged = ["settle"], 0, before
     while count > 0:
         label, number, saved = f"t{number}", number + 1, 0
         lines.append(f"begin {label}")
@@ -165,10 +165,12 @@ def lines_of(rng, count):
             else:
                 saved = rng.randrange(1, saved + 1)
                 lines += [f"back {label} {saved}", "settle"]
-            count -= 1
+            count, logged = count - 1, logged + 1
         lines += [f"{'commit' if rng.random() < 0.7 else 'rollback'} {label}", "settle"]
         if rng.random() < CHECKPOINTS:
             lines += ["tell", "checkpoint", "settle"]
+        if rng.random() < LOWS:
+            lines += [f"low {rng.randrange(logged + 1)}", "settle"]
     return lines
 
 
@@ -205,7 +207,7 @@ class Run:
 
     def __init__(self, shell, seed, folder, count, counts):
         self.shell, self.rng, self.folder, self.counts = shell, random.Random(seed), folder, counts
-        self.left, self.model = count, Model()
+        self.whole, self.left, self.model = count, count, Model()
         self.network = Network(self.rng, counts)
         self.dc = None
 
@@ -349,8 +351,9 @@ class Run:
         while self.left > 0 and not self.model.faults:
             count = min(self.left, self.rng.randrange(100, 500))
             kill_tc, kill_dc = (self.rng.randrange(20, 21 + count * 3) if self.rng.random() < 0.6 else 0 for _ in range(2))
+            lines = lines_of(self.rng, count, self.whole - self.left)
             self.left -= count
-            if not self.segment(lines_of(self.rng, count), kill_tc, kill_dc):
+            if not self.segment(lines, kill_tc, kill_dc):
                 self.look()
         self.undecided = None
         self.look()
