@@ -2,10 +2,10 @@
 //!
 //! Neither waits until the other commits, since increments go beside one another. Which engine it is (`J`) is known to
 //! the proof alone: who opens it says `Brand`. It has to be closed: who owns it lends what a function that may stop needs.
-ghost use Rattle.worker_pool.specs.Opened.{IsNamed};
+ghost use Rattle.monitor_engine.specs.Opened.{IsNamed};
 
-use codec::{Reply, Request};
 use file_devices::{FileLog, NoPages, open_store};
+use monitor_engine::{Engine, Naming, Opened, Session};
 use node_store::open;
 use record_key::{Key, Op, Refusal, Value};
 use std::alloc::{AllocError, Global};
@@ -13,20 +13,9 @@ use std::fs::{File, Files};
 use std::marker::Brand;
 use std::sync::Wait;
 use std::thread::{JoinHandle, Threads, spawn};
-use worker_pool::{Engine, Gate, Naming, Opened, Session};
 use world::bring_up;
 
-/// A gate at which nobody looks on.
-#[derive(Drop)]
-struct Quiet;
-
-impl Gate for Quiet {
-    fn before(&self, _request: &Request) {}
-
-    fn after(&self, _reply: &Reply) {}
-}
-
-type Client<J> = Session<J, Quiet, FileLog, NoPages>;
+type Client<J> = Session<J, FileLog, NoPages>;
 
 /// A client's session again, or why the client stopped.
 type Left<J> = Result<Client<J>, Refusal>;
@@ -45,7 +34,8 @@ where
     };
     // Before the engine is made, which would keep an entry of each round.
     bring_up(&mut world, &mut Vec::new(alloc))?;
-    let opened = Opened::over(alloc, world, 2)?;
+    // On a file forces are dear, so commits share them.
+    let opened = Opened::over(alloc, world, 2, true)?;
     count::<Brand, R>(rt, opened)
 }
 
@@ -56,7 +46,7 @@ where
     R: Threads + Wait + Copy + Send + 'static,
     requires named { IsNamed opened J.start J.entries J.marks J.names J.sessions }
 {
-    let (engine, mut clients) = Engine::<J, Quiet, FileLog, NoPages>::new(rt, opened, 2, Quiet)?;
+    let (engine, mut clients) = Engine::<J, FileLog, NoPages>::new(&rt, opened)?;
     let apples = work(rt, &mut clients);
     engine.close(&rt, clients)?;
     apples

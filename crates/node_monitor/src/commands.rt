@@ -16,7 +16,6 @@ use pool_journal::node_laws::{Event, Out};
 use record_key::Refusal;
 use stable::{CrashLog, CrashPages};
 use std::sync::Wait;
-use world::Device;
 
 impl<J: Naming, D: CrashLog, P: CrashPages> Guarded<J, D, P> {
     // An event that the engine calls, and its entry.
@@ -94,24 +93,6 @@ impl<J: Naming, D: CrashLog, P: CrashPages> Guarded<J, D, P> {
         ensures { Commanded J.sessions self.old own.old (event.FailTc call) out.new self.new own.new }
     {
         self.command(rt, row, own, &Event::FailTc { call }, out);
-    }
-
-    /// The same of one of the data component's devices.
-    pub fn fail_dc<R: Wait>(
-        &mut self,
-        rt: &R,
-        row: &Row<Entry>,
-        own: &mut Caller<J>,
-        device: Device,
-        call: u64,
-        out: &mut Out,
-    )
-        requires row { row.now ≡ J.entries }
-        requires own { own.old.number ≡ J.sessions }
-        requires rest { own.old.busy ≡ false }
-        ensures { Commanded J.sessions self.old own.old (event.FailDc device call) out.new self.new own.new }
-    {
-        self.command(rt, row, own, &Event::FailDc { device, call }, out);
     }
 
     /// Brings both components up, in one session, and undoes who was lost; the engine has seen all steps then. Refused
