@@ -15,7 +15,7 @@ use Rattle.clap.specs.declared.builder.value_parser.ValueParser.TheVariants.{Uns
 use Rattle.clap.proofs.ValueTestLemmas.{accepts-Accepts}
 use Rattle.clap.proofs.OnLiterals.{clap_on_literals}
 use Rattle.command_line.proofs.Options.{HasOption, HasValue, IsKnown, IsRequest, both_none, level_has_value, level_may_have_value}
-use Rattle.command_line.specs.CommandLine.{at, command_line, counting, last, numbering, rounds, sessions}
+use Rattle.command_line.specs.CommandLine.{at, command_line, counting, last, locks, numbering, rounds, sessions}
 use Rattle.command_line.specs.Asked.{MayAskFor, MayCount, NamesCount, most_number}
 
 -- ---- a call for help is never taken
@@ -127,6 +127,9 @@ sessions_rule = filled sessions
 abbrev pub rounds_rule : Rule
 rounds_rule = filled rounds
 
+abbrev pub locks_rule : Rule
+locks_rule = filled locks
+
 abbrev at_rule : Rule
 at_rule = filled at
 
@@ -152,7 +155,10 @@ has_sessions = record {
   is = record { sets = refl; least = refl; default = refl };
   known = (
     itself sessions_rule refl,
-    (another sessions_rule rounds_rule (inl refl) refl, (another sessions_rule asking_rule (inr asks_help) refl, tt)),
+    (
+      another sessions_rule rounds_rule (inl refl) refl,
+      (another sessions_rule locks_rule (inl refl) refl, (another sessions_rule asking_rule (inr asks_help) refl, tt)),
+    ),
   );
   no_places = λ i. refl;
 }
@@ -162,7 +168,23 @@ has_rounds = record {
   is = record { sets = refl; least = refl; default = refl };
   known = (
     another rounds_rule sessions_rule (inl refl) refl,
-    (itself rounds_rule refl, (another rounds_rule asking_rule (inr asks_help) refl, tt)),
+    (
+      itself rounds_rule refl,
+      (another rounds_rule locks_rule (inl refl) refl, (another rounds_rule asking_rule (inr asks_help) refl, tt)),
+    ),
+  );
+  no_places = λ i. refl;
+}
+
+has_locks : HasOption locks_rule pool_shape
+has_locks = record {
+  is = record { sets = refl; least = refl; default = refl };
+  known = (
+    another locks_rule sessions_rule (inl refl) refl,
+    (
+      another locks_rule rounds_rule (inl refl) refl,
+      (itself locks_rule refl, (another locks_rule asking_rule (inr asks_help) refl, tt)),
+    ),
   );
   no_places = λ i. refl;
 }
@@ -207,7 +229,13 @@ pool_taken : (words : List Text) → level_fault pool_shape [] nothing_held word
 pool_taken words e =
     let first = level_has_value sessions_rule pool_shape [] words false [] has_sessions refl (inl refl) e in
     let second = level_has_value rounds_rule pool_shape [] words false [] has_rounds refl (inr (inl refl)) e in
-    inr (inl (refl, named 8 (codes "sessions") (codes "4") _ first, named 99 (codes "rounds") (codes "3") _ second))
+    let third = level_has_value locks_rule pool_shape [] words false [] has_locks refl (inr (inr (inl refl))) e in
+    inr (inl (
+      refl,
+      named 8 (codes "sessions") (codes "4") _ first,
+      named 99 (codes "rounds") (codes "3") _ second,
+      named 3 (codes "locks") (codes "3") _ third,
+    ))
 
 explain_taken : (words : List Text) → level_fault explain_shape [] nothing_held words false [] ≡ []
     → MayAskFor (Some (rows_at explain_shape words))

@@ -25,7 +25,8 @@ MayCount rows option = (one_of option rows ≡ None) ⊎ NamesCount rows option 
 abbrev pub MayAskFor : Option (Text × List Row) → Type 0
 MayAskFor None = ⊥
 MayAskFor (Some s) = (s.0 ≡ codes "run")
-    ⊎ (((s.0 ≡ codes "pool") × NamesCount s.1 (codes "sessions") 8 × NamesCount s.1 (codes "rounds") 99)
+    ⊎ (((s.0 ≡ codes "pool") × NamesCount s.1 (codes "sessions") 8 × NamesCount s.1 (codes "rounds") 99
+    × NamesCount s.1 (codes "locks") 3)
     ⊎ (((s.0 ≡ codes "explain") × MayCount s.1 (codes "at"))
     ⊎ (((s.0 ≡ codes "draw") × MayCount s.1 (codes "last"))
     ⊎ ((s.0 ≡ codes "compact") ⊎ ((s.0 ≡ codes "check")
@@ -76,8 +77,9 @@ AsksFor (Some s) (task.Load store creates) = NamesStore s (codes "load") store �
 AsksFor (Some s) (task.Stat store) = NamesStore s (codes "stat") store
 AsksFor (Some s) (task.Dc store) = NamesStore s (codes "dc") store
 AsksFor (Some s) (task.Tc store script) = NamesStore s (codes "tc") store × IsGivenText s.1 (codes "script") script
-AsksFor (Some s) (task.Pool sessions rounds) = (s.0 ≡ codes "pool")
+AsksFor (Some s) (task.Pool sessions rounds locks) = (s.0 ≡ codes "pool")
     × IsCount s.1 (codes "sessions") 8 sessions × IsCount s.1 (codes "rounds") 99 rounds
+    × IsCount s.1 (codes "locks") 3 locks
 AsksFor (Some s) (task.Explain at) = (s.0 ≡ codes "explain") × IsGivenCount s.1 (codes "at") at
 AsksFor (Some s) (task.Draw last) = (s.0 ≡ codes "draw") × IsGivenCount s.1 (codes "last") last
 
@@ -91,6 +93,6 @@ HasClient (task.Load store creates) = ⊤
 HasClient (task.Stat store) = ⊤
 HasClient (task.Dc store) = ⊤
 HasClient (task.Tc store script) = ⊤
-HasClient (task.Pool sessions rounds) = 0 < sessions
+HasClient (task.Pool sessions rounds locks) = 0 < sessions
 HasClient (task.Explain at) = ⊤
 HasClient (task.Draw last) = ⊤

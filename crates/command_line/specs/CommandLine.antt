@@ -22,12 +22,15 @@ counting name most default = record (new_rule name) {
   parser = Some (Unsigned 1 most);
 }
 
--- how many clients there are, and how many rounds each of them plays
+-- how many clients there are, how many rounds each of them plays, and how many locks their engine has
 abbrev pub sessions : Rule
 sessions = counting (codes "sessions") 8 (codes "4")
 
 abbrev pub rounds : Rule
 rounds = counting (codes "rounds") 99 (codes "3")
+
+abbrev pub locks : Rule
+locks = counting (codes "locks") 3 (codes "3")
 
 -- an option that is there or not
 abbrev pub flag_option : Text → Rule
@@ -115,7 +118,7 @@ tc = with_rule (on_store (codes "tc")) scripting
 
 -- to let clients play on threads
 abbrev pub pool : App
-pool = with_rule (with_rule (new_app (codes "pool")) sessions) rounds
+pool = with_rule (with_rule (with_rule (new_app (codes "pool")) sessions) rounds) locks
 
 -- an option that is a number from 1 on, below 2 to the power of 48, and may be left out
 abbrev pub numbering : Text → Rule

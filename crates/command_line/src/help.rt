@@ -70,7 +70,8 @@ a line was refused.";
 pub const CLIENTS: &str = "\
 Client S writes the round's number to the record sS, inserts it as the record sSrR for
 round R, and commits where R is odd; else it rolls back. After its rounds it reads sS.
-Amid the first client's second round the data component crashes and is restarted.
+Amid the first client's second round the data component crashes and is restarted: on an
+engine with three locks while a request waits, with one once all clients have begun.
 
 A line for each client says what it read; then the records follow.
 

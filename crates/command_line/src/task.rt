@@ -68,10 +68,11 @@ pub enum Task<'a> {
         store: Option<&'a str>,
         script: Option<&'a str>,
     },
-    /// So many clients, each with a session of its own, play so many rounds on threads.
+    /// So many clients, each with a session of its own, play so many rounds on threads, at an engine with so many locks.
     Pool {
         sessions: usize,
         rounds: u64,
+        locks: u64,
     },
     /// A script is read from standard input and explained, of its lines just line `at` where there is a number.
     Explain {
@@ -109,6 +110,7 @@ fn task_of<'a>(matches: &ArgMatches<'a>) -> Task<'a>
         return Task::Pool {
             sessions: number_of(asked, "sessions") as usize,
             rounds: number_of(asked, "rounds"),
+            locks: number_of(asked, "locks"),
         };
     }
     if let Some(asked) = matches.subcommand_matches("explain") {
@@ -355,7 +357,8 @@ fn pool_command<'a>(alloc: Global) -> Result<Command<'a>, AllocError>
         .about("Lets clients play rounds on threads, and prints what they read and leave")
         .after_help(CLIENTS)
         .arg(counting(alloc, "sessions", "N", 8, "4").help("How many clients there are, 1 to 8"))?
-        .arg(counting(alloc, "rounds", "M", 99, "3").help("How many rounds each plays, 1 to 99"))
+        .arg(counting(alloc, "rounds", "M", 99, "3").help("How many rounds each plays, 1 to 99"))?
+        .arg(counting(alloc, "locks", "L", 3, "3").help("How many locks their engine has, 1 or 3"))
 }
 
 // What explains a script.

@@ -10,6 +10,7 @@ mod asking;
 mod calls;
 mod ended;
 mod engine;
+mod generic;
 mod held;
 mod known;
 mod opened;
@@ -22,6 +23,7 @@ mod sort;
 pub use engine::Engine;
 pub use node_monitor::Closed;
 pub use node_monitor::pool_journal::Naming;
+pub use node_monitor::session_answers::{Calls, Commands};
 pub use opened::Opened;
 pub use session::Session;
 

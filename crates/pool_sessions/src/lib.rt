@@ -7,6 +7,7 @@
 #![tactic(auto)]
 
 mod ahead;
+mod calls;
 mod session;
 
 pub use session::Session;

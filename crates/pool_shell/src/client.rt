@@ -6,13 +6,13 @@ use crate::words::{client_key, round_key, round_value};
 use record_key::{Op, Refusal, Value};
 use std::sync::Wait;
 use std::thread;
-use worker_pool::{Gate, Naming, Session};
+use worker_pool::Calls;
 
 /// A client plays its rounds, and then reads its key: gives the value there. A call that is refused Redoing or
 /// NotConnected is made again; any other refusal ends it.
-pub fn play<J: Naming, G: Gate + Drop, R: Wait>(
+pub fn play<S: Calls, R: Wait>(
     rt: &R,
-    session: &mut Session<J, G>,
+    session: &mut S,
     client: u64,
     rounds: u64,
 ) -> Result<Option<Value>, Refusal> {
@@ -23,9 +23,9 @@ pub fn play<J: Naming, G: Gate + Drop, R: Wait>(
 }
 
 // A transaction with two writes, rolled back in each second round.
-fn play_round<J: Naming, G: Gate + Drop, R: Wait>(
+fn play_round<S: Calls, R: Wait>(
     rt: &R,
-    session: &mut Session<J, G>,
+    session: &mut S,
     client: u64,
     round: u64,
 ) -> Result<(), Refusal> {
@@ -48,21 +48,13 @@ fn play_round<J: Naming, G: Gate + Drop, R: Wait>(
     }
 }
 
-fn act<J: Naming, G: Gate + Drop, R: Wait>(
-    rt: &R,
-    session: &mut Session<J, G>,
-    op: &Op,
-) -> Result<(), Refusal> {
+fn act<S: Calls, R: Wait>(rt: &R, session: &mut S, op: &Op) -> Result<(), Refusal> {
     insist(rt, || session.act(rt, op))?;
     Ok(())
 }
 
 // A transaction that reads the client's key.
-fn read<J: Naming, G: Gate + Drop, R: Wait>(
-    rt: &R,
-    session: &mut Session<J, G>,
-    client: u64,
-) -> Result<Option<Value>, Refusal> {
+fn read<S: Calls, R: Wait>(rt: &R, session: &mut S, client: u64) -> Result<Option<Value>, Refusal> {
     let key = client_key(client)?;
     insist(rt, || session.begin(rt))?;
     let value = insist(rt, || session.get(rt, &key))?;

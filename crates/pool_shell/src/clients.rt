@@ -8,46 +8,55 @@ use std::alloc::{AllocError, Global};
 use std::sync::{Arc, Wait};
 use std::thread;
 use std::thread::{JoinHandle, Threads};
-use worker_pool::{Engine, Gate, Naming, Session};
+use worker_pool::{Calls, Commands};
 
 /// What a client read, or why it stopped.
 type Read = Result<Option<Value>, Refusal>;
 
 /// What a client leaves.
 #[derive(Drop)]
-pub struct Ended<J: Naming, G> {
-    session: Session<J, G>,
+pub struct Ended<S> {
+    session: S,
     read: Read,
 }
 
 /// The clients' threads in order, and why there are no more of them.
 #[derive(Drop)]
-pub struct Started<J: Naming, G> {
-    threads: Vec<JoinHandle<Ended<J, G>>>,
+pub struct Started<S> {
+    threads: Vec<JoinHandle<Ended<S>>>,
     stopped: Option<Refusal>,
 }
 
 /// The clients that have ended: their sessions, and what each of them read.
 #[derive(Drop)]
-pub struct Played<J: Naming, G> {
-    pub(crate) sessions: Vec<Session<J, G>>,
+pub struct Played<S> {
+    pub(crate) sessions: Vec<S>,
     pub(crate) values: Vec<Option<Value>>,
 }
 
-/// Each session's client plays its rounds on a thread of its own, while the data component crashes and is restarted
-/// where a request is held for that. Refused as the least client was, NoMemory where its thread can't be made; the
-/// sessions are gone then.
-pub fn play_all<J, G, R>(
+/// When the data component crashes beside the clients.
+#[derive(Clone, Copy, PartialEq, Eq)]
+pub enum Crash {
+    /// Once all have begun.
+    AtOnce,
+    /// Where a request is held for that.
+    WhereHeld,
+}
+
+/// Each session's client plays its rounds on a thread of its own, while the data component crashes and is restarted.
+/// Refused as the least client was, NoMemory where its thread can't be made; the sessions are gone then.
+pub fn play_all<E, S, R>(
     rt: R,
     alloc: Global,
-    engine: &mut Engine<J, G>,
-    sessions: Vec<Session<J, G>>,
+    engine: &mut E,
+    sessions: Vec<S>,
     holding: &Arc<Holding>,
+    crash: Crash,
     rounds: u64,
-) -> Result<Played<J, G>, Refusal>
+) -> Result<Played<S>, Refusal>
 where
-    J: Naming + Drop + Send + Sync + 'static,
-    G: Gate + Drop + Send + Sync + 'static,
+    E: Commands,
+    S: Calls + Drop + Send + 'static,
     R: Threads + Wait + Copy + Send + 'static,
     ensures { IfOk result (λ played. vec_len played.values ≡ vec_len sessions) }
 {
@@ -58,7 +67,7 @@ where
     };
     let threads = Vec::with_capacity(alloc, count)?;
     let started = start_all(rt, sessions, holding, rounds, threads);
-    if holding.wait_held(&rt) {
+    if crash == Crash::AtOnce || holding.wait_held(&rt) {
         engine.crash_dc(&rt);
         restart(&rt, engine);
         holding.open(&rt);
@@ -68,16 +77,15 @@ where
 
 // Starts a thread for each client, up to the first for which none can be made. A thread that was started is joined
 // later: so there is room for its handle before.
-fn start_all<J, G, R>(
+fn start_all<S, R>(
     rt: R,
-    sessions: Vec<Session<J, G>>,
+    sessions: Vec<S>,
     holding: &Arc<Holding>,
     rounds: u64,
-    threads: Vec<JoinHandle<Ended<J, G>>>,
-) -> Started<J, G>
+    threads: Vec<JoinHandle<Ended<S>>>,
+) -> Started<S>
 where
-    J: Naming + Drop + Send + Sync + 'static,
-    G: Gate + Drop + Send + Sync + 'static,
+    S: Calls + Drop + Send + 'static,
     R: Threads + Wait + Copy + Send + 'static,
     requires none { vec_len threads ≡ 0 }
     requires room { vec_len sessions ≤ vec_capacity threads }
@@ -103,16 +111,15 @@ where
     }
 }
 
-fn start<J, G, R>(
+fn start<S, R>(
     rt: R,
-    session: Session<J, G>,
+    session: S,
     holding: &Arc<Holding>,
     client: u64,
     rounds: u64,
-) -> Result<JoinHandle<Ended<J, G>>, AllocError>
+) -> Result<JoinHandle<Ended<S>>, AllocError>
 where
-    J: Naming + Drop + Send + Sync + 'static,
-    G: Gate + Drop + Send + Sync + 'static,
+    S: Calls + Drop + Send + 'static,
     R: Threads + Wait + Copy + Send + 'static,
 {
     let holding = Arc::try_clone(holding)?;
@@ -120,13 +127,13 @@ where
 }
 
 // A client's thread, from its first round to its end.
-fn follow<J: Naming, G: Gate + Drop, R: Wait>(
+fn follow<S: Calls, R: Wait>(
     rt: &R,
-    session: Session<J, G>,
+    session: S,
     holding: &Holding,
     client: u64,
     rounds: u64,
-) -> Ended<J, G> {
+) -> Ended<S> {
     let mut session = session;
     let read = play(rt, &mut session, client, rounds);
     holding.leave(rt, client);
@@ -134,12 +141,7 @@ fn follow<J: Naming, G: Gate + Drop, R: Wait>(
 }
 
 // Brings the components up, and again where that is refused.
-fn restart<J, G, R>(rt: &R, engine: &mut Engine<J, G>)
-where
-    J: Naming + Drop + Send + Sync + 'static,
-    G: Gate + Drop + Send + Sync + 'static,
-    R: Wait,
-{
+fn restart<E: Commands, R: Wait>(rt: &R, engine: &mut E) {
     for _ in rt.forever() {
         if engine.restart(rt).is_ok() {
             break;
@@ -150,11 +152,13 @@ where
 
 // Waits for each thread, and gathers what the clients leave, in order. Refused as the least one was. There is room for
 // all of it: a thread that isn't joined would keep the engine open.
-fn join_all<J: Naming, G: Gate + Drop, R: Threads>(
+fn join_all<S, R: Threads>(
     rt: &R,
-    started: Started<J, G>,
-    played: Played<J, G>,
-) -> Result<Played<J, G>, Refusal>
+    started: Started<S>,
+    played: Played<S>,
+) -> Result<Played<S>, Refusal>
+where
+    S: Drop,
     requires none { (vec_len played.sessions ≡ 0) × (vec_len played.values ≡ 0) }
     requires sessions { vec_len started.threads ≤ vec_capacity played.sessions }
     requires values { vec_len started.threads ≤ vec_capacity played.values }

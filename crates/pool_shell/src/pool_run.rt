@@ -1,89 +1,60 @@
-//! Clients on threads, from an engine's first thread to the last line.
-ghost use Rattle.std.specs.Prelude.{◌≡◌, ◌<◌, IfOk, length, option_map, vec_len};
+//! Clients on threads, from an engine's opening to the last line.
+ghost use Rattle.std.specs.Prelude.{◌≡◌, ◌<◌, option_map};
 ghost use Rattle.node_shell.specs.Text.{WritesAlone};
 ghost use Rattle.pool_shell.specs.PoolText.{WritesPool, pool_text};
-ghost use Rattle.worker_pool.specs.Opened.{IsNamed};
 
-use crate::clients::{Played, play_all};
-use crate::holding::{Door, Holding};
 use crate::shown::print_pool;
-use node_shell::{DONE, FAILED, refuse};
-use record_key::{Key, Refusal, Value};
+use crate::{monitored, pooled};
+use node_shell::{DONE, FAILED};
+use record_key::{Key, Value};
 use std::alloc::Global;
 use std::io;
-use std::marker::Brand;
-use std::sync::{Arc, Wait};
+use std::sync::Wait;
 use std::thread::Threads;
-use worker_pool::{Closed, Engine, Naming, Opened};
 
-/// How many threads serve the clients' requests.
-const WORKERS: usize = 4;
+/// Which engine the clients share.
+#[derive(Clone, Copy, PartialEq, Eq)]
+pub enum Locks {
+    /// The one under one lock.
+    One,
+    /// The one on three locks, with workers.
+    Three,
+}
 
 /// Lets so many clients play so many rounds each, beside a crash of the data component where there are two rounds or
 /// more, and writes what each read and which records are left; where anything was refused, the line of that refusal
 /// alone. Gives the exit status.
-pub fn pool<R, W>(rt: R, alloc: Global, clients: usize, rounds: u64, writer: &mut W) -> u8
+pub fn pool<R, W>(
+    rt: R,
+    alloc: Global,
+    locks: Locks,
+    clients: usize,
+    rounds: u64,
+    writer: &mut W,
+) -> u8
 where
     R: Threads + Wait + Copy + Send + Sync + 'static,
     W: io::Write,
     requires some { 0 < clients }
     ensures { WritesPool clients (W.contents writer.old) (W.contents writer.new) result }
 {
-    match Opened::new(alloc, clients) {
-        Ok(opened) => run_opened::<Brand, R, W>(rt, alloc, opened, rounds, writer),
-        Err(refusal) => refuse(writer, refusal, FAILED),
+    match locks {
+        Locks::One => monitored::pool(rt, alloc, clients, rounds, writer),
+        Locks::Three => pooled::pool(rt, alloc, clients, rounds, writer),
     }
 }
 
-// The same with what an engine is made of.
-fn run_opened<J, R, W>(rt: R, alloc: Global, opened: Opened, rounds: u64, writer: &mut W) -> u8
-where
-    J: Naming + Drop + Send + Sync + 'static,
-    R: Threads + Wait + Copy + Send + Sync + 'static,
-    W: io::Write,
-    requires named { IsNamed opened J.start J.entries J.marks J.names J.sessions }
-    requires some { 0 < length opened.sessions }
-    ensures { WritesPool (length opened.sessions) (W.contents writer.old) (W.contents writer.new) result }
-{
-    let (values, closed) = match play_out::<J, R>(rt, alloc, opened, rounds) {
-        Ok(left) => left,
-        Err(refusal) => return refuse(writer, refusal, FAILED),
-    };
-    show(writer, values.as_slice(), closed.rows())
-}
-
-// Writes what the clients read and left. Gives the exit status.
-fn show<W: io::Write>(writer: &mut W, values: &[Option<Value>], rows: Option<&[(Key, Value)]>) -> u8
+/// Writes what the clients read and left. Gives the exit status.
+pub(crate) fn show<W: io::Write>(
+    writer: &mut W,
+    values: &[Option<Value>],
+    rows: Option<&[(Key, Value)]>,
+) -> u8
     ensures { WritesAlone (pool_text values.now (option_map (λ r. r.now) rows.entry)) 0 (W.contents writer.old)
         (W.contents writer.new) result }
 {
     match print_pool(writer, values, rows) {
         Ok(()) => DONE,
         Err(_) => FAILED,
-    }
-}
-
-// Starts an engine, lets its clients play, and closes it. Gives what each read, and what the engine leaves.
-fn play_out<J, R>(
-    rt: R,
-    alloc: Global,
-    opened: Opened,
-    rounds: u64,
-) -> Result<(Vec<Option<Value>>, Closed<J>), Refusal>
-where
-    J: Naming + Drop + Send + Sync + 'static,
-    R: Threads + Wait + Copy + Send + Sync + 'static,
-    requires named { IsNamed opened J.start J.entries J.marks J.names J.sessions }
-    ensures { IfOk result (λ left. vec_len left.0 ≡ length opened.sessions) }
-{
-    let holding = Arc::new(alloc, Holding::new(rounds >= 2))?;
-    let door = Door::new(rt, Arc::try_clone(&holding)?);
-    let (mut engine, sessions) = Engine::<J, Door<R>>::new(rt, opened, WORKERS, door)?;
-    match play_all(rt, alloc, &mut engine, sessions, &holding, rounds) {
-        Ok(Played { sessions, values }) => Ok((values, engine.close(&rt, sessions)?)),
-        Err(refusal) => {
-            let _ = engine.close(&rt, Vec::new(alloc));
-            Err(refusal)
-        }
     }
 }

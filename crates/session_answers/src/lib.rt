@@ -1,4 +1,4 @@
-//! What a session asks for, how a call of its ended, and what it answers then.
+//! What a session asks for, how a call of its ended, and what it answers then; and the calls of both engines, as traits.
 //!
 //! Knows: the entries of a call and of what told of it.
 //! Must not know: threads, locks, or who makes the steps of a call.
@@ -8,6 +8,7 @@
 
 mod answers;
 mod ask;
+mod calls;
 mod ended;
 mod told;
 
@@ -16,6 +17,7 @@ pub use answers::{
     saved,
 };
 pub use ask::Ask;
+pub use calls::{Calls, Commands};
 pub use ended::{Ended, Unfinished, bar, left_by};
 pub use told::Told;
 

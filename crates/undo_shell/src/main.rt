@@ -32,10 +32,10 @@ use measured::measure;
 use node_pictures::draw;
 use node_shell::{DONE, FAILED, FAULT, Stopping, refusal_of, refuse, run};
 use node_texts::explain;
-use pool_shell::pool;
+use pool_shell::{Locks, pool};
 use record_key::Refusal;
 use refusals::Counting;
-use script::{Manner, read_script, tell_fault, tell_line, tell_run};
+use script::{Manner, read_script, tell_fault, tell_line, tell_run, told};
 use std::alloc::Global;
 use std::fs::{File, Files};
 use std::io::{BufWriter, Write};
@@ -98,7 +98,13 @@ where
             };
             run_task(&rt, terminals, manner, store, (reads_only, creates))
         }
-        Ok(Task::Pool { sessions, rounds }) => play(rt, sessions, rounds),
+        Ok(
+            Task::Pool {
+                sessions,
+                rounds,
+                locks,
+            },
+        ) => play(rt, locks, sessions, rounds),
         Ok(task) => perform(&rt, terminals, task),
         Err(fault) => print_fault(&rt, &fault),
     }
@@ -146,8 +152,24 @@ where
     }
 }
 
-/// Lets the clients play, and writes their text to standard output.
-fn play<R>(rt: R, sessions: usize, rounds: u64) -> u8
+/// Lets the clients of an engine with so many locks play.
+fn play<R>(rt: R, locks: u64, sessions: usize, rounds: u64) -> u8
+where
+    R: Print + Eprint + AllocGlobal + Threads + Wait + Copy + Send + Sync + 'static,
+    requires { 0 < sessions }
+{
+    match locks {
+        1 => play_on(rt, Locks::One, sessions, rounds),
+        3 => play_on(rt, Locks::Three, sessions, rounds),
+        _ => told(
+            eprintln!(&rt; "undo_shell: an engine has one lock or three: --locks 1 or --locks 3"),
+            FAULT,
+        ),
+    }
+}
+
+/// Lets the clients of this engine play, and writes their text to standard output.
+fn play_on<R>(rt: R, locks: Locks, sessions: usize, rounds: u64) -> u8
 where
     R: Print + AllocGlobal + Threads + Wait + Copy + Send + Sync + 'static,
     requires { 0 < sessions }
@@ -156,7 +178,7 @@ where
     let Ok(mut writer) = BufWriter::new(alloc, Stopping::new(io::writer(&rt))) else {
         return refuse(&mut io::writer(&rt), Refusal::NoMemory, FAILED);
     };
-    let status = pool(rt, alloc, sessions, rounds, &mut writer);
+    let status = pool(rt, alloc, locks, sessions, rounds, &mut writer);
     finish(&mut writer, status)
 }
 

@@ -1,13 +1,10 @@
 //! An engine: the workers over what the threads share.
-ghost use Rattle.std.specs.Prelude.{◌≡◌, ◌<◌, ◌++◌, ◌∷◌, [], IfOk, IfErr, OnOk, length};
+ghost use Rattle.std.specs.Prelude.{◌≡◌, ◌<◌, [], IfOk, IfErr, OnOk, length};
 ghost use Rattle.std.specs.List.{AllByRecursion};
-ghost use Rattle.world.specs.node_laws.specs.declared.event.Event.TheVariants as event;
 ghost use Rattle.world.specs.node_laws.specs.Node.{dc_side};
 ghost use Rattle.pool_sessions.specs.pool_journal.specs.Commands.{commands};
 ghost use Rattle.pool_sessions.specs.pool_journal.specs.Ending.{IsRowsOf, LeavesNode};
-ghost use Rattle.pool_sessions.specs.pool_journal.specs.Slots.{Slot};
-ghost use Rattle.pool_sessions.specs.pool_journal.specs.Witnessed.{LeftBytes, WereUp};
-ghost use Rattle.pool_sessions.specs.shared_node.specs.Entered.{IsEntered};
+ghost use Rattle.pool_sessions.specs.pool_journal.specs.Witnessed.{WereUp};
 ghost use Rattle.pool_sessions.specs.shared_node.specs.Outages.{IsOutage};
 ghost use Rattle.pool_sessions.specs.pool_journal.specs.Closing.{IsFresh, IsKeptBy, below, numbers_named};
 ghost use Rattle.worker_pool.specs.Opened.{IsNamed};
@@ -34,10 +31,10 @@ use world::World;
 /// commands, in order: the crashes that it made, and the failures that it set.
 pub struct Engine<J: Naming, G, D: CrashLog = MemLog, P: CrashPages = MemPages> {
     alloc: Global,
-    shared: Arc<Shared<J, G, D, P>>,
+    pub(crate) shared: Arc<Shared<J, G, D, P>>,
     work: Sender<Job>,
     workers: Vec<JoinHandle<()>>,
-    operator: Operator<J>,
+    pub(crate) operator: Operator<J>,
 }
 
 impl<J: Naming, G, D: CrashLog, P: CrashPages> Model for Engine<J, G, D, P> {
@@ -201,40 +198,6 @@ where
         } = self;
         drop(work);
         join_all(rt, workers);
-    }
-
-    /// The data component crashes. Nothing is kept that isn't stable.
-    pub fn crash_dc<R: Wait>(&mut self, rt: &R)
-        ensures given { self.new ≡ self.old ++ event.CrashDc 0 0 ∷ [] }
-        ensures entered { IsEntered J.entries (event.CrashDc 0 0) }
-    {
-        self.shared.crash_dc(rt, &mut self.operator);
-    }
-
-    /// The transaction component crashes, and every session's transaction is cut off. Of what isn't stable of the log so
-    /// many bytes are kept, or all of it where it has fewer.
-    pub fn crash_tc<R: Wait>(&mut self, rt: &R, kept: u64)
-        ensures { (entry : Slot) × LeftBytes J.start J.entries kept self.old entry self.new }
-    {
-        self.shared.entrance().crash(rt, kept, &mut self.operator);
-    }
-
-    /// The call of this number, from now on, of the device of the transaction component's log fails.
-    pub fn fail_tc<R: Wait>(&mut self, rt: &R, call: u64)
-        ensures given { self.new ≡ self.old ++ event.FailTc call ∷ [] }
-        ensures entered { IsEntered J.entries (event.FailTc call) }
-    {
-        self.shared.entrance().fail(rt, call, &mut self.operator);
-    }
-
-    /// Brings both components up, in one session, and undoes who was lost: after all commands that were given. Refused
-    /// NoMemory, Device, NumbersSpent; what was done by then stands.
-    pub fn restart<R: Wait>(&mut self, rt: &R) -> Result<(), Refusal>
-        ensures same { self.new ≡ self.old }
-        ensures up { OnOk result (WereUp J.start J.entries self.old) }
-        ensures refused { IfErr result IsOutage }
-    {
-        self.shared.bring_up(rt, &mut self.operator)
     }
 
     /// Ends the engine with all of its sessions, and joins every thread: the journal, the node, and where its data component

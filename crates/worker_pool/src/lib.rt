@@ -8,6 +8,7 @@
 
 mod assembly;
 mod closed;
+mod commands;
 mod engine;
 mod opened;
 mod seated;
@@ -17,4 +18,4 @@ pub use engine::Engine;
 pub use opened::Opened;
 pub use pool_sessions::Session;
 pub use pool_sessions::pool_journal::{Entry, Gate, Naming, Step};
-pub use pool_sessions::session_answers::Told;
+pub use pool_sessions::session_answers::{Calls, Commands, Told};

@@ -2,7 +2,7 @@ use Rattle.std.proofs.Common.{rules, ap₂, ◌≡◌, ◌∙◌, false, codes}
 use Rattle.std.proofs.lemmas.Result.{IfOk-weaker}
 use Rattle.clap.specs.Simple.{app_of, new_app, with_rule}
 use Rattle.clap.specs.Walk.{rule_of}
-use Rattle.command_line.specs.CommandLine.{rounds, sessions}
+use Rattle.command_line.specs.CommandLine.{locks, rounds, sessions}
 use Rattle.command_line.proofs.task.pool_command.Goals as goal
 
 pub returns-clause-app : goal.returns-clause-app
@@ -14,4 +14,8 @@ returns-clause-app c =
     c.in_ok-arg.ensures.shape local ∙ ap₂ with_rule empty rule in
     let local_2 : c.help-2.result.global ≡ false = search rules in
     let rule_2 : rule_of c.help-2.result ≡ rounds = search rules in
-    IfOk-weaker c.arg-2.result _ _ (λ made added. added.shape local_2 ∙ ap₂ with_rule one rule_2) c.arg-2.ensures
+    let two : app_of c.in_ok-arg-2.field-0 ≡ with_rule (with_rule (new_app (codes "pool")) sessions) rounds =
+    c.in_ok-arg-2.ensures.shape local_2 ∙ ap₂ with_rule one rule_2 in
+    let local_3 : c.help-3.result.global ≡ false = search rules in
+    let rule_3 : rule_of c.help-3.result ≡ locks = search rules in
+    IfOk-weaker c.arg-3.result _ _ (λ made added. added.shape local_3 ∙ ap₂ with_rule two rule_3) c.arg-3.ensures

@@ -1,9 +1,9 @@
 use Rattle.std.proofs.Common.{◌≡◌, ◌∙◌, ℕ, zero, suc, [], ◌∷◌, ap, arith, length, length-append, refl, sym, vec_len}
 use Rattle.std.proofs.lemmas.List.{length-map}
 use Rattle.std.proofs.lemmas.Grind.{common_steps}
-use Rattle.worker_pool.specs.pool_journal.specs.Callers.{SessionView}
-use Rattle.worker_pool.specs.pool_journal.specs.Closing.{below}
-use Rattle.pool_shell.proofs.pool_run.play_out.Goals as goal
+use Rattle.monitor_engine.specs.node_monitor.specs.pool_journal.specs.Callers.{SessionView}
+use Rattle.monitor_engine.specs.node_monitor.specs.pool_journal.specs.Closing.{below}
+use Rattle.pool_shell.proofs.monitored.play_out.Goals as goal
 
 length-below : (n : ℕ) → length (below n) ≡ n
 length-below zero = refl

@@ -1,6 +1,6 @@
 use Rattle.std.proofs.Common.{length}
-use Rattle.worker_pool.specs.Opened.{tie_name}
-use Rattle.pool_shell.proofs.pool_run.pool.Given as goal
+use Rattle.monitor_engine.specs.Opened.{tie_name}
+use Rattle.pool_shell.proofs.monitored.pool.Given as goal
 
 -- the engine's names are those of what was just opened
 abbrev pub ghosts-run_opened : goal.ghosts-run_opened
