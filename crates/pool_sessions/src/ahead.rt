@@ -1,5 +1,5 @@
 //! Memory ahead of a session's calls.
-use std::alloc::Global;
+use std::alloc::{AllocError, Global};
 
 /// How many calls are made before the heap grows again.
 const CALLS: u32 = 36;
@@ -9,7 +9,7 @@ const CALLS: u32 = 36;
 const BYTES: usize = 60_000;
 
 /// Has the heap of a session's thread grow for many calls at once, and while the thread holds no lock. Left to itself it
-/// grows a page at a time, for which every thread is held up, and a page's first touch takes longer than a step.
+/// grows a page at a time, for which every thread is held up.
 #[derive(Drop)]
 pub(crate) struct Ahead {
     alloc: Global,
@@ -28,8 +28,8 @@ impl Ahead {
             return;
         }
         self.left = CALLS;
-        // Where it is refused the call itself says so.
-        let mut piece: Vec<u8> = Vec::new(self.alloc);
-        let _ = piece.resize(BYTES, 0);
+        // Where it is refused the call itself says so. Nothing is written there: a fill took more than the heap's growth.
+        let piece: Result<Vec<u8>, AllocError> = Vec::with_capacity(self.alloc, BYTES);
+        drop(piece);
     }
 }
