@@ -2,7 +2,8 @@ use Rattle.std.proofs.Common.{rules, ap₂, ◌≡◌, ◌∙◌, false, codes}
 use Rattle.std.proofs.lemmas.Result.{IfOk-weaker}
 use Rattle.clap.specs.Simple.{app_of, new_app, with_rule}
 use Rattle.clap.specs.Walk.{rule_of}
-use Rattle.command_line.specs.CommandLine.{locks, rounds, sessions}
+use Rattle.command_line.proofs.Adding.{local_with}
+use Rattle.command_line.specs.CommandLine.{IsLocal, locks, rounds, sessions}
 use Rattle.command_line.proofs.task.pool_command.Goals as goal
 
 pub returns-clause-app : goal.returns-clause-app
@@ -19,3 +20,11 @@ returns-clause-app c =
     let local_3 : c.help-3.result.global ≡ false = search rules in
     let rule_3 : rule_of c.help-3.result ≡ locks = search rules in
     IfOk-weaker c.arg-3.result _ _ (λ made added. added.shape local_3 ∙ ap₂ with_rule two rule_3) c.arg-3.ensures
+
+pub returns-clause-local : goal.returns-clause-local
+returns-clause-local c =
+    let empty : IsLocal c.after_help.result = search rules in
+    let one : IsLocal c.in_ok-arg.field-0 = local_with _ _ c.in_ok-arg.field-0 c.in_ok-arg.ensures empty (search rules) in
+    let two : IsLocal c.in_ok-arg-2.field-0 =
+    local_with _ _ c.in_ok-arg-2.field-0 c.in_ok-arg-2.ensures one (search rules) in
+    IfOk-weaker c.arg-3.result _ _ (λ made added. local_with _ _ made added two (search rules)) c.arg-3.ensures
