@@ -12,8 +12,8 @@ import sys
 ROOT = os.path.dirname(os.path.dirname(os.path.abspath(__file__)))
 PAGE = os.path.join(ROOT, "docs", "CONTRACTS.md")
 MARK = "<!-- From here on the page is made by docs/contracts.py. -->\n"
-# Under these headings of crates.txt no crate is part of the product.
-LEFT_OUT = ("Tests", "Measurements")
+# Under this heading of crates.txt no crate is part of the product.
+LEFT_OUT = ("Tests and measurements",)
 
 
 class All:

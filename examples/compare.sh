@@ -3,7 +3,7 @@
 # named, as crates/undo_shell/out/undo_shell, runs that on each script too and compares what it prints.
 # Usage: examples/compare.sh [PROGRAM]
 folder=$(dirname "$0")
-copies=$folder/../crates/script_tests/data
+copies=$folder/../crates/test_scripts/data
 status=0
 for script in "$folder"/*.script; do
     name=$(basename "$script" .script)

@@ -169,7 +169,7 @@ class Replay:
                     self.unsent.append(number)
 
     def settling(self):
-        """The next event of a settle, as crate halves_apart does them: what it comes to, None where nothing is left."""
+        """The next event of a settle, as crate shell_halves does them: what it comes to, None where nothing is left."""
         if self.phase == "unconnected":
             self.phase = "recovering"
             return self.node.do("connect")

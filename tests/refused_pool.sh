@@ -1,5 +1,5 @@
 #!/bin/sh
-# Usage: tests/refused_pool.sh FIRST STEP LAST PROGRAM. Runs PROGRAM, which is pool_tests, once for each n from FIRST
+# Usage: tests/refused_pool.sh FIRST STEP LAST PROGRAM. Runs PROGRAM, which is test_pool, once for each n from FIRST
 # to LAST by STEP, with the n-th growth refused; then with growths refused at regular distances, first those of all
 # threads, then those of all but the first, which judges the others. Each run must end by itself, within ten minutes,
 # and no case may differ. Prints in how many runs all cases agreed and in how many some gave up. Needs a C compiler.
@@ -7,7 +7,7 @@ set -u
 folder=$(mktemp -d)
 trap 'rm -rf "$folder"' EXIT
 "${CC:-cc}" -O1 -shared -fPIC -o "$folder/refuse.so" "$(dirname "$0")/refuse.c" || exit 2
-cp "$(dirname "$0")"/../crates/pool_tests/data/* "$folder" || exit 2
+cp "$(dirname "$0")"/../crates/test_pool/data/* "$folder" || exit 2
 case $4 in
 /*) program=$4 ;;
 *) program=$PWD/$4 ;;

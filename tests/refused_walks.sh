@@ -1,5 +1,5 @@
 #!/bin/sh
-# Usage: tests/refused_walks.sh COUNT PROGRAM. Runs PROGRAM, which is node_tests, on COUNT random scripts four times, with
+# Usage: tests/refused_walks.sh COUNT PROGRAM. Runs PROGRAM, which is test_node, on COUNT random scripts four times, with
 # growths refused at regular distances: to the node, which is given the event again then, or to the model, whose script is
 # given up. Fails where a script differs. Needs a C compiler.
 set -u

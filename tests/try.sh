@@ -3,7 +3,7 @@
 # file stdout. Usage: tests/try.sh [NAME..]; without a name all of them. Takes about a minute each on a fresh machine.
 set -eu
 cd "$(dirname "$0")/../crates"
-[ $# -gt 0 ] || set -- record_tests log_tests leaf_tests dc_tests tc_tests node_tests script_tests shell_tests store_tests pool_tests
+[ $# -gt 0 ] || set -- test_records test_logs test_leaves test_dc test_tc test_node test_scripts test_shell test_stores test_pool
 status=0
 for name in "$@"; do
     cd "$name"

@@ -3,7 +3,7 @@
 # built shell is named, as crates/undo_shell/out/undo_shell, has it explain and draw each script too.
 # Usage: examples/pictures/compare.sh [PROGRAM]
 folder=$(dirname "$0")
-copies=$folder/../../crates/script_tests/data
+copies=$folder/../../crates/test_scripts/data
 status=0
 for script in "$folder"/*.script; do
     name=$(basename "$script" .script)

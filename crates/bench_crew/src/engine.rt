@@ -1,6 +1,6 @@
 //! One measurement of an engine.
 ghost use Rattle.std.specs.Prelude.{⊤};
-ghost use Rattle.worker_pool.specs.Opened.{IsNamed};
+ghost use Rattle.engine_workers.specs.Opened.{IsNamed};
 
 use crate::crew::{CLIENTS, Crew};
 use crate::draws::Values;
@@ -8,9 +8,10 @@ use crate::hashing::digest;
 use crate::outcome::{Outcome, done};
 use crate::player::Player;
 use crate::quiet::Quiet;
+use engine_workers::{Engine, Naming, Opened, Session};
 use file_devices::{FileLog, NoPages, open_store};
+use node_store::node_world::bring_up;
 use node_store::open;
-use node_store::world::bring_up;
 use record_key::Refusal;
 use stable::{CrashLog, CrashPages};
 use std::alloc::Global;
@@ -20,7 +21,6 @@ use std::sync::Wait;
 use std::thread::Threads;
 use std::time::{Clock, Duration, Instant};
 use std::{io, thread};
-use worker_pool::{Engine, Naming, Opened, Session};
 
 /// How many threads serve the clients' requests.
 const WORKERS: usize = 4;

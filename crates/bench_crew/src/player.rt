@@ -2,10 +2,10 @@
 use crate::crew::{IN_TRANSACTION, Share};
 use crate::draws::{KEYS, Values, key_of, mix};
 use crate::quiet::Quiet;
+use engine_workers::{Naming, Session};
 use record_key::{Op, Refusal};
 use stable::{CrashLog, CrashPages};
 use std::sync::Wait;
-use worker_pool::{Naming, Session};
 
 /// A session, and whether all that it was asked was done.
 #[derive(Drop)]

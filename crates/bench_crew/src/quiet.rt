@@ -1,6 +1,6 @@
 //! A gate at which nobody looks on.
 use codec::{Reply, Request};
-use worker_pool::Gate;
+use engine_workers::Gate;
 
 #[derive(Drop)]
 pub struct Quiet;

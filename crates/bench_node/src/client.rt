@@ -1,7 +1,7 @@
 //! One client of a node, and the messages for it.
+use node_world::{Event, Out, World, bring_up, settle};
 use record_key::{Key, Op, Refusal, Value};
 use std::alloc::Global;
-use world::{Event, Out, World, bring_up, settle};
 
 /// How many rounds are settled at a time.
 const ROUNDS: u64 = 100;

@@ -2,7 +2,7 @@
 ghost use Rattle.std.specs.Prelude.{◌<◌, ◌≤◌};
 
 use crate::draws::{drawn, key_of, upsert_of};
-use btree::{LeafSet, one_leaf, split_at};
+use dc_tree::{LeafSet, one_leaf, split_at};
 use record_key::{Key, Op, Refusal};
 use std::alloc::Global;
 

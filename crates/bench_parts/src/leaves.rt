@@ -4,7 +4,7 @@ ghost use Rattle.std.specs.Prelude.{◌<◌, ◌≤◌};
 use crate::calls::{
     ROUND, filled, get_each, keys_for, operations_for, perform_each, same_for, tend_each,
 };
-use btree::LeafSet;
+use dc_tree::LeafSet;
 use record_key::Refusal;
 use std::alloc::Global;
 use std::io;

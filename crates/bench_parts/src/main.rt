@@ -11,7 +11,7 @@ mod opening;
 mod reads;
 mod records;
 
-use btree::{LeafList, LeafSet, Tree};
+use dc_tree::{LeafList, LeafSet, Tree};
 use std::{env, io};
 
 const READER_COUNTS: [usize; 2] = [1, 3];

@@ -2,12 +2,12 @@
 ghost use Rattle.std.specs.Prelude.{◌≡◌, ◌≤◌, [], IfOk};
 
 use crate::records::put_log;
-use logical_log::Log;
 use record_key::Refusal;
 use stable::{CrashLog, DeviceError, LogDevice, MemLog};
 use std::alloc::Global;
 use std::io;
 use std::time::{Clock, Instant};
+use tc_log::Log;
 
 /// A device that holds these bytes, as a crash leaves it.
 fn device_of(alloc: Global, bytes: &[u8]) -> Result<MemLog, DeviceError>

@@ -1,8 +1,8 @@
 //! One measurement: readers that each make a fixed number of reads, and a raiser that raises until they are done.
 ghost use Rattle.std.specs.Prelude.{◌≡◌, All, IsTrue};
-ghost use Rattle.marks.specs.Seen.{reader};
+ghost use Rattle.engine_marks.specs.Seen.{reader};
 
-use marks::{Marks, Seat};
+use engine_marks::{Marks, Seat};
 use std::alloc::{AllocError, Global};
 use std::io;
 use std::sync::atomic::AtomicBool;

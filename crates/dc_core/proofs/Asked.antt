@@ -4,11 +4,11 @@ use Rattle.std.proofs.lemmas.Bool.{cases_Bool}
 use Rattle.record_key.specs.declared.op.Op.{Op}
 use Rattle.record_key.specs.declared.op.Answer.{Answer}
 use Rattle.record_key.specs.Table.{key_of}
-use Rattle.page.specs.declared.leaf.Done.{Done}
-use Rattle.page.specs.declared.leaf.Done.TheVariants.{Performed}
-use Rattle.btree.specs.Performs.{PerformsAt}
-use Rattle.system_txn.specs.SystemView.{SystemView}
-use Rattle.system_txn.specs.Kept.{IsSystem}
+use Rattle.dc_leaf.specs.declared.leaf.Done.{Done}
+use Rattle.dc_leaf.specs.declared.leaf.Done.TheVariants.{Performed}
+use Rattle.dc_tree.specs.Performs.{PerformsAt}
+use Rattle.dc_store.specs.SystemView.{SystemView}
+use Rattle.dc_store.specs.Kept.{IsSystem}
 use Rattle.dc_core.specs.declared.performance.Performance.{Performance}
 use Rattle.dc_core.specs.DcView.{DcView, leaves, captures_at}
 use Rattle.dc_core.specs.Serves.{MayPerform, performs}

@@ -2,8 +2,8 @@
 use Rattle.std.proofs.Common.{◌≡◌, ℕ, sym, ap, subst}
 use Rattle.std.specs.Prelude.{Err}
 use Rattle.record_key.specs.declared.refusal.Refusal.{Refusal}
-use Rattle.system_txn.specs.Kept.{IsSystem}
-use Rattle.system_txn.specs.Gives.{AcceptGives}
+use Rattle.dc_store.specs.Kept.{IsSystem}
+use Rattle.dc_store.specs.Gives.{AcceptGives}
 use Rattle.dc_core.specs.DcView.{DcView}
 use Rattle.dc_core.specs.Serves.{MayTakeBack, with_system, connected}
 use Rattle.dc_core.specs.Kept.{IsDc}

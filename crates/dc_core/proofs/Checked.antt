@@ -7,12 +7,12 @@ use Rattle.record_key.specs.Table.{Bytes, key_of}
 use Rattle.codec.specs.declared.request.Request.{Request}
 use Rattle.codec.specs.declared.request.Request.TheVariants as asks
 use Rattle.codec.specs.declared.reply.Reply.{Reply}
-use Rattle.system_txn.specs.Checked.{IsChecked, Checks}
-use Rattle.system_txn.specs.Kept.{IsRecoverable}
-use Rattle.system_txn.specs.declared.tended.Neighbours.{Neighbours}
-use Rattle.system_txn.specs.declared.tended.Tended.{Tended}
-use Rattle.system_txn.proofs.Checked as systems
-use Rattle.system_txn.proofs.Checkpointed.{checkpoint_reaches}
+use Rattle.dc_store.specs.Checked.{IsChecked, Checks}
+use Rattle.dc_store.specs.Kept.{IsRecoverable}
+use Rattle.dc_store.specs.declared.tended.Neighbours.{Neighbours}
+use Rattle.dc_store.specs.declared.tended.Tended.{Tended}
+use Rattle.dc_store.proofs.Checked as systems
+use Rattle.dc_store.proofs.Checkpointed.{checkpoint_reaches}
 use Rattle.stable.specs.Usage.{Usage}
 use Rattle.dc_core.specs.DcView.{DcView, fresh_dc, captures_at}
 use Rattle.dc_core.specs.Kept.{IsDc}

@@ -9,22 +9,22 @@ use Rattle.record_key.specs.declared.entry.Entry.{Entry}
 use Rattle.record_key.specs.Table.{Bytes, Table, key_of}
 use Rattle.record_key.proofs.Lists.{all_from}
 use Rattle.record_key.proofs.Tables.{same_table}
-use Rattle.ab_lsn.specs.AbLsn.{stands_in, captures, up_to}
-use Rattle.ab_lsn.proofs.Popping.{popped_same}
-use Rattle.page.specs.Leaf.{LeafView, IsLeaf}
-use Rattle.page.specs.TakingBack.{taken_back as leaf_taken_back}
-use Rattle.take_back_laws.specs.Performed as laws
-use Rattle.take_back_laws.specs.Listed as listing
-use Rattle.take_back_laws.proofs.Kept.{once_kept, falls_kept, listed_kept, answered_kept}
-use Rattle.take_back_laws.proofs.Listed.{taken_replayed}
-use Rattle.btree.specs.Leaves.{AreLeaves, leaf_at, rows_of}
-use Rattle.btree.proofs.AtKey.{all_at}
-use Rattle.btree.proofs.Carried.{AreLows}
-use Rattle.btree.proofs.Changing.{all_mapped, leaf_mapped}
-use Rattle.btree.proofs.Tiling.{there_from}
-use Rattle.btree.proofs.Together.{value_from}
-use Rattle.system_txn.specs.Kept.{IsSystem}
-use Rattle.system_txn.specs.Changes.{accepted}
+use Rattle.dc_ab_lsn.specs.AbLsn.{stands_in, captures, up_to}
+use Rattle.dc_ab_lsn.proofs.Popping.{popped_same}
+use Rattle.dc_leaf.specs.Leaf.{LeafView, IsLeaf}
+use Rattle.dc_leaf.specs.TakingBack.{taken_back as leaf_taken_back}
+use Rattle.dc_take_back.specs.Performed as laws
+use Rattle.dc_take_back.specs.Listed as listing
+use Rattle.dc_take_back.proofs.Kept.{once_kept, falls_kept, listed_kept, answered_kept}
+use Rattle.dc_take_back.proofs.Listed.{taken_replayed}
+use Rattle.dc_tree.specs.Leaves.{AreLeaves, leaf_at, rows_of}
+use Rattle.dc_tree.proofs.AtKey.{all_at}
+use Rattle.dc_tree.proofs.Carried.{AreLows}
+use Rattle.dc_tree.proofs.Changing.{all_mapped, leaf_mapped}
+use Rattle.dc_tree.proofs.Tiling.{there_from}
+use Rattle.dc_tree.proofs.Together.{value_from}
+use Rattle.dc_store.specs.Kept.{IsSystem}
+use Rattle.dc_store.specs.Changes.{accepted}
 use Rattle.dc_core.specs.declared.performance.Performance.{Performance}
 use Rattle.dc_core.specs.DcView.{DcView, leaves}
 use Rattle.dc_core.specs.Serves.{MayTakeBack, kept_to, connected}

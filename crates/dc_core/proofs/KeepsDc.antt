@@ -10,24 +10,24 @@ use Rattle.std.specs.FinMap as map
 use Rattle.record_key.specs.Table.{Bytes, Table, key_of, AreAdds, answer_in, after}
 use Rattle.record_key.specs.declared.entry.Entry.{Entry}
 use Rattle.record_key.specs.Entries.{top_in}
-use Rattle.ab_lsn.specs.AbLsn.{stands_in, captures}
-use Rattle.page.specs.Leaf.{LeafView, IsLeaf, is_in_fences}
-use Rattle.page.proofs.Halves.{table_again}
-use Rattle.btree.specs.Leaves.{leaf_at, rows_of}
-use Rattle.btree.specs.Performs.{performed_at}
-use Rattle.btree.specs.TreeLaw.{PerformsOne}
-use Rattle.btree.proofs.AtKey.{captured_performed, captured_not_performed}
-use Rattle.btree.proofs.Carried.{AreLows, entries_performed}
-use Rattle.btree.proofs.Owning.{own_leaves}
-use Rattle.btree.proofs.Stays.{performs_one}
-use Rattle.recovery_laws.specs.Recovery.{stored_session}
+use Rattle.dc_ab_lsn.specs.AbLsn.{stands_in, captures}
+use Rattle.dc_leaf.specs.Leaf.{LeafView, IsLeaf, is_in_fences}
+use Rattle.dc_leaf.proofs.Halves.{table_again}
+use Rattle.dc_tree.specs.Leaves.{leaf_at, rows_of}
+use Rattle.dc_tree.specs.Performs.{performed_at}
+use Rattle.dc_tree.specs.TreeLaw.{PerformsOne}
+use Rattle.dc_tree.proofs.AtKey.{captured_performed, captured_not_performed}
+use Rattle.dc_tree.proofs.Carried.{AreLows, entries_performed}
+use Rattle.dc_tree.proofs.Owning.{own_leaves}
+use Rattle.dc_tree.proofs.Stays.{performs_one}
+use Rattle.dc_recovery.specs.Recovery.{stored_session}
 use Rattle.framed_log.specs.Beginning.{beginning}
 use Rattle.stable.specs.Usage.{Usage}
-use Rattle.system_txn.specs.SystemView.{SystemView, fresh_system}
-use Rattle.system_txn.specs.Kept.{IsSystem}
+use Rattle.dc_store.specs.SystemView.{SystemView, fresh_system}
+use Rattle.dc_store.specs.Kept.{IsSystem}
 use Rattle.dc_core.specs.declared.performance.Performance.{Performance}
-use Rattle.take_back_laws.specs.Performed as laws
-use Rattle.take_back_laws.specs.Listed as listing
+use Rattle.dc_take_back.specs.Performed as laws
+use Rattle.dc_take_back.specs.Listed as listing
 use Rattle.dc_core.specs.DcView.{DcView, leaves, captures_at, top_of, top_low}
 use Rattle.dc_core.specs.Serves.{MayPerform, with_system, performs, redone}
 use Rattle.dc_core.specs.Kept.{IsDc, Saves, IsListed, AreListed, for_law, for_laws, IsPerformed, ArePerformed, IsShown, IsLevel}

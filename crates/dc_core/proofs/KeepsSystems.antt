@@ -7,29 +7,29 @@ use Rattle.record_key.specs.declared.refusal.Refusal.{Refusal}
 use Rattle.record_key.specs.declared.entry.Entry.{Entry}
 use Rattle.record_key.specs.Table.{Bytes, key_of}
 use Rattle.record_key.proofs.Lists.{all_from}
-use Rattle.ab_lsn.specs.AbLsn.{AbLsnView, stands_in, captures}
-use Rattle.ab_lsn.specs.Parting.{is_under, is_from, entries_with, stands_with}
-use Rattle.ab_lsn.proofs.Capturing.{parted_captures, joined_captures}
-use Rattle.page.specs.Leaf.{LeafView}
-use Rattle.btree.specs.Leaves.{leaf_at, rows_of}
-use Rattle.btree.specs.Parting.{middle, split_at, merged_at}
-use Rattle.btree.proofs.AtKey.{all_at, captured_raised}
-use Rattle.btree.proofs.Carried.{AreLows, entries_raised, entries_split, entries_merged}
-use Rattle.btree.proofs.Merging.{AreJoinable, joinable, leaf_merged}
-use Rattle.btree.proofs.Splitting.{leaf_split}
-use Rattle.btree.proofs.Stays.{raised_stays, split_stays, merged_stays}
-use Rattle.recovery_laws.specs.Recovery.{stored_session}
+use Rattle.dc_ab_lsn.specs.AbLsn.{AbLsnView, stands_in, captures}
+use Rattle.dc_ab_lsn.specs.Parting.{is_under, is_from, entries_with, stands_with}
+use Rattle.dc_ab_lsn.proofs.Capturing.{parted_captures, joined_captures}
+use Rattle.dc_leaf.specs.Leaf.{LeafView}
+use Rattle.dc_tree.specs.Leaves.{leaf_at, rows_of}
+use Rattle.dc_tree.specs.Parting.{middle, split_at, merged_at}
+use Rattle.dc_tree.proofs.AtKey.{all_at, captured_raised}
+use Rattle.dc_tree.proofs.Carried.{AreLows, entries_raised, entries_split, entries_merged}
+use Rattle.dc_tree.proofs.Merging.{AreJoinable, joinable, leaf_merged}
+use Rattle.dc_tree.proofs.Splitting.{leaf_split}
+use Rattle.dc_tree.proofs.Stays.{raised_stays, split_stays, merged_stays}
+use Rattle.dc_recovery.specs.Recovery.{stored_session}
 use Rattle.framed_log.specs.Beginning.{beginning}
 use Rattle.stable.specs.Usage.{Usage}
-use Rattle.system_txn.specs.SystemView.{SystemView, with_usage, log_refused}
-use Rattle.system_txn.specs.Kept.{IsSystem}
-use Rattle.system_txn.specs.Changes.{next_id, next_number, lowered, accepted, covered, forced, written_to, written_all}
-use Rattle.system_txn.specs.Gives as gives
-use Rattle.page.specs.Tops.{is_within, all_within}
-use Rattle.system_txn.specs.Gives.{Splits, Merges, SplitGives, MergeGives, TendGives, FlushGives, StopsWriting, CheckpointGives, StopsCheckpoint, AcceptGives, FailsWriting, FailsAmong, tending}
-use Rattle.system_txn.specs.declared.tended.Neighbours.{Neighbours}
-use Rattle.system_txn.specs.declared.tended.Tended.{Tended}
-use Rattle.system_txn.specs.declared.tended.Tended.TheVariants as tended
+use Rattle.dc_store.specs.SystemView.{SystemView, with_usage, log_refused}
+use Rattle.dc_store.specs.Kept.{IsSystem}
+use Rattle.dc_store.specs.Changes.{next_id, next_number, lowered, accepted, covered, forced, written_to, written_all}
+use Rattle.dc_store.specs.Gives as gives
+use Rattle.dc_leaf.specs.Tops.{is_within, all_within}
+use Rattle.dc_store.specs.Gives.{Splits, Merges, SplitGives, MergeGives, TendGives, FlushGives, StopsWriting, CheckpointGives, StopsCheckpoint, AcceptGives, FailsWriting, FailsAmong, tending}
+use Rattle.dc_store.specs.declared.tended.Neighbours.{Neighbours}
+use Rattle.dc_store.specs.declared.tended.Tended.{Tended}
+use Rattle.dc_store.specs.declared.tended.Tended.TheVariants as tended
 use Rattle.dc_core.specs.declared.performance.Performance.{Performance}
 use Rattle.dc_core.specs.DcView.{DcView, leaves, captures_at}
 use Rattle.dc_core.specs.Serves.{with_system}
@@ -37,7 +37,7 @@ use Rattle.dc_core.specs.Kept.{IsDc, Saves, IsListed, AreListed, for_laws, IsPer
 use Rattle.dc_core.specs.Tends.{may_merge}
 use Rattle.dc_core.proofs.LowNumbers.{all_each, shown_level, shown_split, level_split, level_merged, shown_raised, level_raised}
 use Rattle.dc_core.proofs.KeepsDc.{Carries, keeps_carried, same_leaves}
-use Rattle.system_txn.proofs.Keeps.{keeps_usage}
+use Rattle.dc_store.proofs.Keeps.{keeps_usage}
 use Rattle.dc_core.proofs.Stored.{stored_grown, stored_forced}
 
 -- ---- a leaf parted

@@ -3,9 +3,9 @@ use Rattle.std.proofs.Common.{◌≡◌, ℕ, ◌+◌, ◌<◌, List, [], ◌∷
 use Rattle.std.specs.Prelude.{max}
 use Rattle.std.proofs.lemmas.List.{take_more}
 use Rattle.std.specs.FinMap.{entries}
-use Rattle.page.specs.Leaf.{LeafView, first}
-use Rattle.page.specs.Tops.{top}
-use Rattle.btree.specs.Leaves.{all_rows}
+use Rattle.dc_leaf.specs.Leaf.{LeafView, first}
+use Rattle.dc_leaf.specs.Tops.{top}
+use Rattle.dc_tree.specs.Leaves.{all_rows}
 use Rattle.dc_core.specs.DcView.{top_of, top_low}
 
 rows_after : (xs : List LeafView) (leaf : LeafView) → all_rows (xs ++ leaf ∷ []) ≡ all_rows xs ++ entries leaf.rows

@@ -6,15 +6,15 @@ use Rattle.std.proofs.lemmas.Bool.{cases_Bool, cases_lt}
 use Rattle.record_key.specs.declared.op.Op.{Op}
 use Rattle.record_key.specs.Table.{Bytes, key_of}
 use Rattle.record_key.proofs.Lists.{all_from}
-use Rattle.ab_lsn.specs.AbLsn.{AbLsnView, raised}
-use Rattle.page.specs.Leaf.{LeafView, is_in_fences, raised_to}
-use Rattle.btree.specs.Leaves.{AreLeaves, leaf_at}
-use Rattle.btree.specs.Parting.{may_split_at, split_at, merged_at}
-use Rattle.btree.specs.Performs.{performed_at}
-use Rattle.btree.proofs.AtKey.{all_at, leaf_performed, leaf_not_performed, leaf_raised}
-use Rattle.btree.proofs.Carried.{AreLows, lows_performed, lows_split, lows_merged}
-use Rattle.btree.proofs.Changing.{all_mapped}
-use Rattle.btree.proofs.Splitting.{leaf_split}
+use Rattle.dc_ab_lsn.specs.AbLsn.{AbLsnView, raised}
+use Rattle.dc_leaf.specs.Leaf.{LeafView, is_in_fences, raised_to}
+use Rattle.dc_tree.specs.Leaves.{AreLeaves, leaf_at}
+use Rattle.dc_tree.specs.Parting.{may_split_at, split_at, merged_at}
+use Rattle.dc_tree.specs.Performs.{performed_at}
+use Rattle.dc_tree.proofs.AtKey.{all_at, leaf_performed, leaf_not_performed, leaf_raised}
+use Rattle.dc_tree.proofs.Carried.{AreLows, lows_performed, lows_split, lows_merged}
+use Rattle.dc_tree.proofs.Changing.{all_mapped}
+use Rattle.dc_tree.proofs.Splitting.{leaf_split}
 use Rattle.dc_core.specs.declared.performance.Performance.{Performance}
 use Rattle.dc_core.specs.DcView.{top_low}
 use Rattle.dc_core.specs.Kept.{IsShown, IsLevel}

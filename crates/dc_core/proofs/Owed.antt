@@ -10,11 +10,11 @@ use Rattle.record_key.specs.Table.{Bytes, Table, key_of, is_add, AreAdds, answer
 use Rattle.record_key.proofs.Lists.{all_from}
 use Rattle.codec.specs.declared.request.Request.{Request}
 use Rattle.codec.specs.declared.request.Request.TheVariants as asks
-use Rattle.page.specs.Leaf.{LeafView}
-use Rattle.take_back_laws.specs.Performed as laws
-use Rattle.take_back_laws.specs.Listed as listing
-use Rattle.btree.specs.Leaves.{leaf_at}
-use Rattle.btree.proofs.AtKey.{all_at}
+use Rattle.dc_leaf.specs.Leaf.{LeafView}
+use Rattle.dc_take_back.specs.Performed as laws
+use Rattle.dc_take_back.specs.Listed as listing
+use Rattle.dc_tree.specs.Leaves.{leaf_at}
+use Rattle.dc_tree.proofs.AtKey.{all_at}
 use Rattle.dc_core.specs.declared.performance.Performance.{Performance}
 use Rattle.dc_core.specs.DcView.{DcView, leaves, captures_at}
 use Rattle.dc_core.specs.Shows.{was_added, Follows, IsOn, IsSavedOn, NoneHidden, MayCome, Shows}

@@ -7,10 +7,10 @@ use Rattle.record_key.specs.Table.{Bytes, key_of}
 use Rattle.codec.specs.declared.request.Request.{Request}
 use Rattle.codec.specs.declared.request.Request.TheVariants as asks
 use Rattle.codec.specs.declared.reply.Reply.{Reply}
-use Rattle.system_txn.specs.Kept.{IsRecoverable}
-use Rattle.system_txn.specs.declared.tended.Neighbours.{Neighbours}
-use Rattle.system_txn.specs.declared.tended.Tended.{Tended}
-use Rattle.system_txn.proofs.Recoverable as systems
+use Rattle.dc_store.specs.Kept.{IsRecoverable}
+use Rattle.dc_store.specs.declared.tended.Neighbours.{Neighbours}
+use Rattle.dc_store.specs.declared.tended.Tended.{Tended}
+use Rattle.dc_store.proofs.Recoverable as systems
 use Rattle.dc_core.specs.DcView.{DcView, captures_at}
 use Rattle.dc_core.specs.Kept.{IsDc}
 use Rattle.dc_core.specs.Serves.{runs, serve_refusal, Serves, Stops, StopsUnless, ServeGives}

@@ -3,7 +3,7 @@ use Rattle.std.proofs.Common.{◌≡◌, ℕ, ◌≤◌, List, ◌∷◌, length
 use Rattle.std.proofs.lemmas.Bool.{cases_lt}
 use Rattle.codec.specs.declared.dc_record.DcRecord.{DcRecord}
 use Rattle.codec.specs.declared.dc_record.DcRecord.TheVariants as is
-use Rattle.recovery_laws.specs.Recovery.{stored_session}
+use Rattle.dc_recovery.specs.Recovery.{stored_session}
 use Rattle.framed_log.specs.Beginning.{beginning}
 use Rattle.framed_log.proofs.Beginning.{whole, everything, shorter, of_beginning}
 

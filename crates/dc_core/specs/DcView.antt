@@ -2,12 +2,12 @@
 use Rattle.std.specs.Prelude.{ℕ, Bool, false, List, [], ◌∷◌, Option, max}
 use Rattle.std.specs.FinMap as map
 use Rattle.record_key.specs.Table.{Table, Bytes}
-use Rattle.ab_lsn.specs.AbLsn.{captures}
-use Rattle.btree.specs.Leaves.{leaf_at}
-use Rattle.page.specs.Leaf.{LeafView}
-use Rattle.page.specs.Tops.{top}
+use Rattle.dc_ab_lsn.specs.AbLsn.{captures}
+use Rattle.dc_tree.specs.Leaves.{leaf_at}
+use Rattle.dc_leaf.specs.Leaf.{LeafView}
+use Rattle.dc_leaf.specs.Tops.{top}
 use Rattle.stable.specs.Usage.{Usage}
-use Rattle.system_txn.specs.SystemView.{SystemView, fresh_system}
+use Rattle.dc_store.specs.SystemView.{SystemView, fresh_system}
 use Rattle.dc_core.specs.declared.performance.Performance.{Performance}
 
 -- the greatest session taken and the one that runs, 0 if none; whether redo goes on; up to which number no request is

@@ -3,13 +3,13 @@ use Rattle.std.specs.Prelude.{◌≡◌, ◌⊎◌, ◌<◌, ◌≤◌, ℕ, tru
 use Rattle.std.specs.List.{AllByRecursion}
 use Rattle.record_key.specs.Table.{Bytes, key_of}
 use Rattle.record_key.specs.declared.entry.Entry.{Entry}
-use Rattle.page.specs.Leaf.{LeafView}
-use Rattle.take_back_laws.specs.Performed as laws
-use Rattle.take_back_laws.specs.Listed as listing
-use Rattle.btree.specs.Leaves.{leaf_at, rows_of}
+use Rattle.dc_leaf.specs.Leaf.{LeafView}
+use Rattle.dc_take_back.specs.Performed as laws
+use Rattle.dc_take_back.specs.Listed as listing
+use Rattle.dc_tree.specs.Leaves.{leaf_at, rows_of}
 use Rattle.framed_log.specs.Beginning.{beginning}
-use Rattle.recovery_laws.specs.Recovery.{stored_session}
-use Rattle.system_txn.specs.Kept.{IsSystem}
+use Rattle.dc_recovery.specs.Recovery.{stored_session}
+use Rattle.dc_store.specs.Kept.{IsSystem}
 use Rattle.dc_core.specs.declared.performance.Performance.{Performance}
 use Rattle.dc_core.specs.DcView.{DcView, leaves, captures_at}
 use Rattle.dc_core.specs.Tends.{may_merge}

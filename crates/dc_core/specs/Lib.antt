@@ -7,4 +7,4 @@ pub mod Seen
 pub mod Restarting
 pub mod Performing
 -- what a crate above names of those below
-pub use Rattle.system_txn as system_txn
+pub use Rattle.dc_store as dc_store

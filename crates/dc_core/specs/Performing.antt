@@ -8,8 +8,8 @@ use Rattle.record_key.specs.Table.{key_of, answer_in}
 use Rattle.codec.specs.declared.parted.Asking.{Asking}
 use Rattle.codec.specs.declared.reply.Reply.{Reply}
 use Rattle.codec.specs.declared.reply.Reply.TheVariants as says
-use Rattle.ab_lsn.specs.AbLsn.{saved_in}
-use Rattle.btree.specs.Leaves.{leaf_at}
+use Rattle.dc_ab_lsn.specs.AbLsn.{saved_in}
+use Rattle.dc_tree.specs.Leaves.{leaf_at}
 use Rattle.dc_core.specs.declared.performance.Performance.{Performance}
 use Rattle.dc_core.specs.DcView.{DcView, leaves, captures_at}
 use Rattle.dc_core.specs.Serves.{performs}

@@ -1,8 +1,8 @@
 -- A data component that was restarted.
 use Rattle.std.specs.Prelude.{false, []}
-use Rattle.btree.specs.Leaves.{rows_of}
-use Rattle.recovery_laws.specs.Recovery.{stored_session}
-use Rattle.system_txn.specs.SystemView.{SystemView}
+use Rattle.dc_tree.specs.Leaves.{rows_of}
+use Rattle.dc_recovery.specs.Recovery.{stored_session}
+use Rattle.dc_store.specs.SystemView.{SystemView}
 use Rattle.dc_core.specs.DcView.{DcView, top_of}
 
 -- no session runs, the greatest one that the log accepted is stored, and nothing was performed yet; all that the leaves

@@ -13,13 +13,13 @@ use Rattle.codec.specs.declared.request.Request.{Request}
 use Rattle.codec.specs.declared.request.Request.TheVariants as asks
 use Rattle.codec.specs.declared.reply.Reply.{Reply}
 use Rattle.codec.specs.declared.reply.Reply.TheVariants as says
-use Rattle.ab_lsn.specs.AbLsn.{saved_in}
-use Rattle.page.specs.Leaf.{LeafView}
-use Rattle.btree.specs.Leaves.{leaf_at, rows_of}
-use Rattle.btree.specs.Performs.{performed_at}
-use Rattle.system_txn.specs.SystemView.{SystemView}
-use Rattle.system_txn.specs.Changes.{lowered, accepted, forced, taken_back}
-use Rattle.system_txn.specs.Gives.{is_spent, CheckpointGives, AcceptGives}
+use Rattle.dc_ab_lsn.specs.AbLsn.{saved_in}
+use Rattle.dc_leaf.specs.Leaf.{LeafView}
+use Rattle.dc_tree.specs.Leaves.{leaf_at, rows_of}
+use Rattle.dc_tree.specs.Performs.{performed_at}
+use Rattle.dc_store.specs.SystemView.{SystemView}
+use Rattle.dc_store.specs.Changes.{lowered, accepted, forced, taken_back}
+use Rattle.dc_store.specs.Gives.{is_spent, CheckpointGives, AcceptGives}
 use Rattle.dc_core.specs.declared.performance.Performance.{Performance}
 use Rattle.dc_core.specs.DcView.{DcView, leaves, captures_at, value_at, top_low}
 

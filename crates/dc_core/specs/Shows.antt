@@ -8,8 +8,8 @@ use Rattle.record_key.specs.declared.entry.Entry.{Entry}
 use Rattle.record_key.specs.Table.{Bytes, key_of, is_add}
 use Rattle.codec.specs.declared.request.Request.{Request}
 use Rattle.codec.specs.declared.request.Request.TheVariants as asks
-use Rattle.page.specs.Leaf.{LeafView}
-use Rattle.btree.specs.Leaves.{leaf_at}
+use Rattle.dc_leaf.specs.Leaf.{LeafView}
+use Rattle.dc_tree.specs.Leaves.{leaf_at}
 use Rattle.dc_core.specs.DcView.{DcView, leaves, captures_at}
 use Rattle.dc_core.specs.Serves.{runs, session_refusal, connect_refusal}
 

@@ -4,10 +4,10 @@ use Rattle.std.specs.Bool.{MatchBool}
 use Rattle.record_key.specs.declared.refusal.Refusal.{Refusal}
 use Rattle.record_key.specs.declared.refusal.Refusal.TheVariants.{NotNow}
 use Rattle.record_key.specs.Table.{Bytes}
-use Rattle.system_txn.specs.SystemView.{SystemView}
-use Rattle.system_txn.specs.Gives.{SplitGives, MergeGives, TendGives, FlushGives}
-use Rattle.system_txn.specs.declared.tended.Neighbours.{Neighbours}
-use Rattle.system_txn.specs.declared.tended.Tended.{Tended}
+use Rattle.dc_store.specs.SystemView.{SystemView}
+use Rattle.dc_store.specs.Gives.{SplitGives, MergeGives, TendGives, FlushGives}
+use Rattle.dc_store.specs.declared.tended.Neighbours.{Neighbours}
+use Rattle.dc_store.specs.declared.tended.Tended.{Tended}
 use Rattle.dc_core.specs.DcView.{DcView}
 use Rattle.dc_core.specs.Serves.{with_system}
 

@@ -3,7 +3,7 @@ ghost use Rattle.std.specs.Prelude.{◌≡◌, ◌<◌, ◌+◌, ◌^◌, ◌↔
 ghost use Rattle.std.specs.List.{AllByRecursion};
 ghost use Rattle.record_key.specs.Table.{key_of};
 ghost use Rattle.codec.specs.Requests.{HasRequestNumbers};
-ghost use Rattle.btree.specs.Leaves.{leaf_at};
+ghost use Rattle.dc_tree.specs.Leaves.{leaf_at};
 ghost use Rattle.dc_core.specs.DcView.{captures_at, leaves};
 ghost use Rattle.dc_core.specs.Serves.{runs, connect_refusal, MayAsk};
 ghost use Rattle.dc_core.specs.Shows.{was_added, Follows, IsOn, IsSavedOn, NoneHidden, MayCome, ShowsPerform, ShowsTakeBack, Shows};

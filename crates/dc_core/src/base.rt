@@ -1,7 +1,7 @@
 //! The records of the leaves when they were opened, which contracts alone see.
 ghost use Rattle.std.specs.Prelude.{◌≡◌};
 ghost use Rattle.record_key.specs.Table.{Table, table_code};
-ghost use Rattle.btree.specs.Leaves.{rows_of};
+ghost use Rattle.dc_tree.specs.Leaves.{rows_of};
 
 use crate::system::System;
 use stable::{LogDevice, PageDevice};

@@ -4,10 +4,10 @@ ghost use Rattle.std.specs.FinMap as map;
 ghost use Rattle.stable.specs.Crash.{BeginsWith};
 ghost use Rattle.stable.specs.Usage.{IsToCome, called_often};
 ghost use Rattle.framed_log.specs.Beginning.{beginning};
-ghost use Rattle.system_txn.specs.Devices.{spelled};
-ghost use Rattle.system_txn.specs.SystemView.{failing_at};
-ghost use Rattle.system_txn.specs.Recovering.{Recovers, RefusesRecovery};
-ghost use Rattle.system_txn.specs.Uses.{StopsOpening, log_calls, page_calls};
+ghost use Rattle.dc_store.specs.Devices.{spelled};
+ghost use Rattle.dc_store.specs.SystemView.{failing_at};
+ghost use Rattle.dc_store.specs.Recovering.{Recovers, RefusesRecovery};
+ghost use Rattle.dc_store.specs.Uses.{StopsOpening, log_calls, page_calls};
 ghost use Rattle.dc_core.specs.Restarting.{restarted};
 ghost use Rattle.dc_core.specs.DcView.{fresh_dc};
 ghost use Rattle.dc_core.specs.Serves.{with_system};
@@ -16,11 +16,11 @@ ghost use Rattle.dc_core.specs.Kept.{IsDc};
 use crate::base::Base;
 use crate::performances::Performances;
 use crate::system::{System, top_of};
+use dc_store::{Device, Devices, Refused};
 use record_key::Refusal;
 use stable::{CrashLog, CrashPages, LogDevice, MemLog, MemPages, PageDevice};
 use std::alloc::Global;
 use std::marker::Model;
-use system_txn::{Device, Devices, Refused};
 
 /// Leaves with their log and their pages, and the session that they serve.
 #[derive(Drop)]
@@ -46,7 +46,7 @@ pub struct Dc<D: LogDevice = MemLog, P: PageDevice = MemPages> {
 impl<D: LogDevice, P: PageDevice> Model for Dc<D, P> {
     ghost use Rattle.std.specs.Coded.{codes};
     ghost use Rattle.record_key.specs.Table.{table_code};
-    ghost use Rattle.system_txn.specs.SystemView.{pages_code};
+    ghost use Rattle.dc_store.specs.SystemView.{pages_code};
     ghost use Rattle.dc_core.specs.DcView.{DcView};
     ghost use Rattle.dc_core.specs.Kept.{IsDc};
     ghost use Rattle.dc_core.specs.Seen.{seen};

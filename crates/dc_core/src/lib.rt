@@ -22,5 +22,5 @@ mod system;
 mod tending;
 
 pub use dc::Dc;
+pub use dc_store::{Device, Devices, Neighbours, Refused, Tended};
 pub use performance::Performance;
-pub use system_txn::{Device, Devices, Neighbours, Refused, Tended};

@@ -3,8 +3,8 @@ ghost use Rattle.std.specs.Prelude.{◌≡◌, []};
 ghost use Rattle.record_key.specs.Lent.{op_lent};
 
 use crate::performance::Performance;
+use dc_leaf::AnswerSink;
 use ghost_list::GhostList;
-use page::AnswerSink;
 use record_key::OpRef;
 
 /// A list of performances, the newest first. It has no bytes.

@@ -7,7 +7,7 @@ ghost use Rattle.dc_core.specs.Performing.{Answers};
 ghost use Rattle.dc_core.specs.Serves.{MayPerform};
 
 use crate::dc::Dc;
-use page::{AnswerSink, Done};
+use dc_leaf::{AnswerSink, Done};
 use record_key::{Key, OpRef, Refusal};
 use stable::{LogDevice, PageDevice};
 

@@ -4,15 +4,15 @@ ghost use Rattle.std.specs.FinMap as map;
 ghost use Rattle.std.specs.Option.{option_copied};
 ghost use Rattle.record_key.specs.Order.{rows_in};
 ghost use Rattle.framed_log.specs.Beginning.{beginning};
-ghost use Rattle.page.specs.Leaf.{first};
-ghost use Rattle.btree.specs.Leaves.{leaf_at, all_rows, rows_of};
-ghost use Rattle.system_txn.specs.Devices.{spelled};
+ghost use Rattle.dc_leaf.specs.Leaf.{first};
+ghost use Rattle.dc_tree.specs.Leaves.{leaf_at, all_rows, rows_of};
+ghost use Rattle.dc_store.specs.Devices.{spelled};
 ghost use Rattle.dc_core.specs.DcView.{leaves, value_at};
 ghost use Rattle.dc_core.specs.Serves.{range, after_redo_refusal};
 
 use crate::dc::Dc;
 use codec::{LentRows, Reply, Rows};
-use page::{Leaf, RowSink, add_rows};
+use dc_leaf::{Leaf, RowSink, add_rows};
 use record_key::{Key, Refusal, Value, ValueRef};
 use stable::{LogDevice, PageDevice};
 

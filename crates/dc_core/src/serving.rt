@@ -8,7 +8,7 @@ ghost use Rattle.dc_core.specs.Serves.{serve_refusal, session_refusal, MayAsk, S
 
 use crate::dc::Dc;
 use codec::{Asking, Reply, Request};
-use page::AnswerSink;
+use dc_leaf::AnswerSink;
 use record_key::{Op, OpRef, Refusal};
 use stable::{LogDevice, PageDevice};
 

@@ -1,6 +1,6 @@
 //! What changes the session, what is known of the requests that are lost, or what all leaves have captured.
 ghost use Rattle.std.specs.Prelude.{◌≡◌, ◌<◌, ◌^◌, false, None, Some, Ok, Err, IfOk, IfErr, OnOk, OnErr};
-ghost use Rattle.system_txn.specs.Gives.{append_refusal, AcceptGives};
+ghost use Rattle.dc_store.specs.Gives.{append_refusal, AcceptGives};
 ghost use Rattle.dc_core.specs.Serves.{runs, connect_refusal, MayTakeBack, with_system, connected, knows};
 ghost use Rattle.dc_core.specs.Serves.{lowers, redone, Serves, Stops};
 

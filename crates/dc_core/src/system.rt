@@ -2,9 +2,9 @@
 ghost use Rattle.std.specs.Prelude.{◌≡◌};
 ghost use Rattle.dc_core.specs.DcView.{top_of, top_low};
 
-use btree::Tree;
+use dc_store::SystemTxns;
+use dc_tree::Tree;
 use stable::{LogDevice, PageDevice};
-use system_txn::SystemTxns;
 
 /// A tree of leaves, with their log and their pages.
 pub type System<D, P> = SystemTxns<Tree, D, P>;

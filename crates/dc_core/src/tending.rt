@@ -2,9 +2,9 @@
 ghost use Rattle.dc_core.specs.Tends.{SplitsTo, MergesTo, TendsTo, FlushesTo};
 
 use crate::dc::Dc;
+use dc_store::{Neighbours, Tended};
 use record_key::{Key, Refusal};
 use stable::{LogDevice, PageDevice};
-use system_txn::{Neighbours, Tended};
 
 impl<D: LogDevice, P: PageDevice> Dc<D, P> {
     /// Splits the leaf of the key, where it has two records at least and no entry above the known end; else refused

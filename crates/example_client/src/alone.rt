@@ -3,8 +3,8 @@
 //! Each call is an event of the node. What it comes to later (an answer, the end of a rollback, a commit) is told by
 //! `settle`, which exchanges messages and forces the log until nothing is left to do. A program with messages of its
 //! own would give the events `Send`, `Request` and `Reply` itself.
+use node_world::{Event, Out, World, settle};
 use record_key::{Key, Op, Refusal, Value};
-use world::{Event, Out, World, settle};
 
 /// A client's two transactions.
 pub fn run(rt: &HostRuntime) -> Result<(), Refusal> {

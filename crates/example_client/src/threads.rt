@@ -2,18 +2,18 @@
 //!
 //! Neither waits until the other commits, since increments go beside one another. Which engine it is (`J`) is known to
 //! the proof alone: who opens it says `Brand`. It has to be closed: who owns it lends what a function that may stop needs.
-ghost use Rattle.monitor_engine.specs.Opened.{IsNamed};
+ghost use Rattle.engine_monitor.specs.Opened.{IsNamed};
 
+use engine_monitor::{Engine, Naming, Opened, Session};
 use file_devices::{FileLog, NoPages, open_store};
-use monitor_engine::{Engine, Naming, Opened, Session};
 use node_store::open;
+use node_world::bring_up;
 use record_key::{Key, Op, Refusal, Value};
 use std::alloc::{AllocError, Global};
 use std::fs::{File, Files};
 use std::marker::Brand;
 use std::sync::Wait;
 use std::thread::{JoinHandle, Threads, spawn};
-use world::bring_up;
 
 type Client<J> = Session<J, FileLog, NoPages>;
 

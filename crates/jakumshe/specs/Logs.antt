@@ -2,7 +2,7 @@
 use Rattle.std.specs.Prelude.{◌≡◌, ◌≢◌, ◌⊎◌, ℕ, List, [], ◌++◌, Result, Ok, Err, length, take, drop}
 use Rattle.stable.specs.Usage.{Usage, unused, called_often}
 use Rattle.framed_log.specs.Beginning.{beginning}
-use Rattle.logical_log.specs.Spelled.{spelled}
+use Rattle.tc_log.specs.Spelled.{spelled}
 use Rattle.simulation.specs.Reading.{machine_read}
 use Rattle.dc_core.specs.DcView.{fresh_dc}
 use Rattle.tc_core.specs.Opening.{IsOpened}
@@ -16,7 +16,7 @@ use Rattle.record_key.specs.declared.refusal.Refusal.{Refusal}
 use Rattle.record_key.specs.declared.refusal.Refusal.TheVariants.{Device}
 use Rattle.jakumshe.specs.declared.fault.Fault.{Fault}
 use Rattle.jakumshe.specs.declared.fault.Fault.TheVariants.{Refused}
-use Rattle.world.specs.BringingUp.{BringsUp}
+use Rattle.node_world.specs.BringingUp.{BringsUp}
 use Rattle.jakumshe.specs.Statuses.{fault_of}
 
 -- the bytes of the log that are stable

@@ -5,14 +5,14 @@ use Rattle.stable.specs.Usage.{Usage}
 use Rattle.record_key.specs.declared.refusal.Refusal.{Refusal}
 use Rattle.history.specs.History.{plain}
 use Rattle.history.specs.ListMachine.{Machine, is_live}
-use Rattle.log_rewriting.specs.Written.{written}
-use Rattle.btree.specs.Leaves.{rows_of}
+use Rattle.tc_rewriting.specs.Written.{written}
+use Rattle.dc_tree.specs.Leaves.{rows_of}
 use Rattle.simulation.specs.Reading.{machine_read, txn_read}
 use Rattle.dc_core.specs.DcView.{fresh_dc, leaves}
 use Rattle.node_laws.specs.declared.event.Out.{Out}
 use Rattle.node_laws.specs.Node.{NodeView, joined}
 use Rattle.node_laws.specs.Simulation.{NodeStandsFor}
-use Rattle.world.specs.Quiet.{IsQuiet}
+use Rattle.node_world.specs.Quiet.{IsQuiet}
 use Rattle.node_store.specs.Renewal.{RefusesRenewal}
 use Rattle.jakumshe.specs.declared.fault.Fault.{Fault}
 use Rattle.jakumshe.specs.declared.fault.Fault.TheVariants.{Refused}

@@ -15,11 +15,11 @@ use crate::fault::{Fault, fault_of, renewal_fault};
 use crate::records::RowBytes;
 use crate::{ops, told};
 use node_store::{Cause, open, renew};
+use node_world::{Event, Out, World, bring_up, settle};
 use record_key::{Key, Op, Refusal, Value};
 use stable::{LogDevice, MemLog, MemPages};
 use std::alloc::Global;
 use std::mem::swap;
-use world::{Event, Out, World, bring_up, settle};
 
 #[derive(Drop)]
 pub struct Node {

@@ -11,9 +11,9 @@ use crate::fault::{DONE, Fault};
 use crate::handle::Handle;
 use crate::ops;
 use crate::records::KeyBytes;
+use node_world::World;
 use record_key::Key;
 use std::alloc::Global;
-use world::World;
 
 /// Reads the rows from `low` on, below `high` or, where that is empty, to the end, but no further than one leaf goes;
 /// keeps them for `jakumshe_raw_page`, and gives how many there are and, where the range goes on, the key from which on.

@@ -4,8 +4,8 @@ ghost use Rattle.jakumshe.specs.Calls.{first_end, ended_by, begins, saves, answe
 
 use crate::fault::Fault;
 use codec::Rows;
+use node_world::Out;
 use record_key::{Answer, Value};
-use world::Out;
 
 /// The number of a transaction that has begun.
 pub fn begun(out: &Out) -> Result<u64, Fault>

@@ -8,7 +8,7 @@ use Rattle.codec.specs.declared.request.Request.{Request}
 use Rattle.codec.specs.declared.request.Request.TheVariants as asks
 use Rattle.codec.specs.declared.reply.Reply.{Reply}
 use Rattle.codec.specs.Requests.{IsRequest}
-use Rattle.logical_log.specs.Spelled.{IsAskedBy}
+use Rattle.tc_log.specs.Spelled.{IsAskedBy}
 use Rattle.tc_core.specs.declared.phase.Phase.{Phase}
 use Rattle.tc_core.specs.declared.phase.Phase.TheVariants as phase
 use Rattle.tc_core.specs.declared.told.RecoverStep.TheVariants as step

@@ -8,16 +8,16 @@ use Rattle.history.specs.declared.record.Record.{Record}
 use Rattle.stable.specs.Usage.{Usage, called_often, failing_in}
 use Rattle.stable.specs.PagesState.{Pages}
 use Rattle.framed_log.specs.Beginning.{beginning}
-use Rattle.logical_log.specs.Spelled as records
-use Rattle.dc_core.specs.system_txn.specs.declared.devices.Device.{Device}
-use Rattle.dc_core.specs.system_txn.specs.SystemView.{with_usage, failing_at}
-use Rattle.dc_core.specs.system_txn.specs.Uses.{StopsOpening, page_calls}
-use Rattle.dc_core.specs.system_txn.specs.Devices.{spelled}
-use Rattle.dc_core.specs.system_txn.specs.Crashed.{found, crashed}
+use Rattle.tc_log.specs.Spelled as records
+use Rattle.dc_core.specs.dc_store.specs.declared.devices.Device.{Device}
+use Rattle.dc_core.specs.dc_store.specs.SystemView.{with_usage, failing_at}
+use Rattle.dc_core.specs.dc_store.specs.Uses.{StopsOpening, page_calls}
+use Rattle.dc_core.specs.dc_store.specs.Devices.{spelled}
+use Rattle.dc_core.specs.dc_store.specs.Crashed.{found, crashed}
 use Rattle.dc_core.specs.DcView.{DcView, leaves}
 use Rattle.dc_core.specs.Restarting.{restarted}
 use Rattle.dc_core.specs.Serves.{with_system}
-use Rattle.logical_log.specs.Opening.{UsedToOpen}
+use Rattle.tc_log.specs.Opening.{UsedToOpen}
 use Rattle.tc_core.specs.TcView.{TcView, used_so}
 use Rattle.tc_core.specs.Opened.{crashed as crashed_tc, UsedByOpening, IsOpenedAgain}
 

@@ -11,21 +11,21 @@ use Rattle.history.specs.Log.{answer_of, Requests}
 use Rattle.history.specs.Values.{value_on, IsRight, HasRightAnswers}
 use Rattle.record_key.specs.Order as keys
 use Rattle.record_key.specs.Order.{has_key, rows_in}
-use Rattle.range_locks.specs.declared.span.Span.{Span}
-use Rattle.range_locks.specs.declared.span.Span.TheVariants.{Key, Range}
-use Rattle.range_locks.specs.Meant.{range_of}
+use Rattle.tc_locks.specs.declared.span.Span.{Span}
+use Rattle.tc_locks.specs.declared.span.Span.TheVariants.{Key, Range}
+use Rattle.tc_locks.specs.Meant.{range_of}
 use Rattle.codec.specs.declared.request.Request.{Request}
 use Rattle.codec.specs.declared.request.Request.TheVariants as asks
 use Rattle.codec.specs.declared.reply.Reply.{Reply}
 use Rattle.codec.specs.declared.reply.Reply.TheVariants as says
-use Rattle.page.specs.Leaf.{LeafView}
-use Rattle.page.specs.Honest.{IsHonestLeaf}
-use Rattle.recovery_laws.specs.Recovery.{stored_session}
-use Rattle.recovery_laws.specs.Ready.{IsHonestTo, AllHave}
-use Rattle.dc_core.specs.system_txn.specs.SystemView.{SystemView}
-use Rattle.dc_core.specs.system_txn.specs.Devices.{pages_of}
-use Rattle.dc_core.specs.system_txn.specs.Kept.{IsRecoverable}
-use Rattle.dc_core.specs.system_txn.specs.Checked.{IsChecked}
+use Rattle.dc_leaf.specs.Leaf.{LeafView}
+use Rattle.dc_leaf.specs.Honest.{IsHonestLeaf}
+use Rattle.dc_recovery.specs.Recovery.{stored_session}
+use Rattle.dc_recovery.specs.Ready.{IsHonestTo, AllHave}
+use Rattle.dc_core.specs.dc_store.specs.SystemView.{SystemView}
+use Rattle.dc_core.specs.dc_store.specs.Devices.{pages_of}
+use Rattle.dc_core.specs.dc_store.specs.Kept.{IsRecoverable}
+use Rattle.dc_core.specs.dc_store.specs.Checked.{IsChecked}
 use Rattle.dc_core.specs.declared.performance.Performance.{Performance}
 use Rattle.dc_core.specs.DcView.{DcView, captures_at, fresh_dc}
 use Rattle.dc_core.specs.Serves.{runs}
@@ -40,7 +40,7 @@ use Rattle.tc_core.specs.Opening.{IsOpened}
 use Rattle.stable.specs.Usage.{Usage}
 use Rattle.history.specs.Legal.{FitsCheckpoint}
 use Rattle.framed_log.specs.Beginning.{beginning}
-use Rattle.logical_log.specs.LogView.{last_not_session}
+use Rattle.tc_log.specs.LogView.{last_not_session}
 use Rattle.tc_core.specs.Kept.{IsTc}
 use Rattle.node_laws.specs.Node.{NodeView}
 use Rattle.node_laws.specs.Source.{Source, IsWaiting, IsSource, own}

@@ -16,5 +16,5 @@ pub mod Forgetting
 pub mod Sound
 -- what a crate above names of those below
 pub use Rattle.dc_core as dc_core
-pub use Rattle.dc_core.specs.system_txn as system_txn
+pub use Rattle.dc_core.specs.dc_store as dc_store
 pub use Rattle.tc_core as tc_core

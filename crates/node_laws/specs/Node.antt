@@ -8,8 +8,8 @@ use Rattle.record_key.specs.Table.{Bytes}
 use Rattle.record_key.specs.declared.refusal.Refusal.{Refusal}
 use Rattle.record_key.specs.declared.refusal.Refusal.TheVariants.{NoMemory, NotConnected, BadRange, Unsent}
 use Rattle.record_key.specs.FirstCause.{RefusesAs}
-use Rattle.range_locks.specs.declared.span.Span.{Span}
-use Rattle.range_locks.specs.declared.span.Span.TheVariants.{Key, Range}
+use Rattle.tc_locks.specs.declared.span.Span.{Span}
+use Rattle.tc_locks.specs.declared.span.Span.TheVariants.{Key, Range}
 use Rattle.codec.specs.declared.request.Request.{Request}
 use Rattle.codec.specs.declared.request.Request.TheVariants as asks
 use Rattle.codec.specs.declared.reply.Reply.{Reply}
@@ -18,8 +18,8 @@ use Rattle.stable.specs.Usage.{unused}
 use Rattle.dc_core.specs.DcView.{DcView, fresh_dc}
 use Rattle.dc_core.specs.Serves.{ServeGives, serve_refusal}
 use Rattle.dc_core.specs.Tends.{SplitsTo, MergesTo, TendsTo, FlushesTo}
-use Rattle.dc_core.specs.system_txn.specs.declared.devices.Device.{Device}
-use Rattle.dc_core.specs.system_txn.specs.declared.tended.Tended.TheVariants as tended
+use Rattle.dc_core.specs.dc_store.specs.declared.devices.Device.{Device}
+use Rattle.dc_core.specs.dc_store.specs.declared.tended.Tended.TheVariants as tended
 use Rattle.tc_core.specs.declared.told.Told.{Told}
 use Rattle.tc_core.specs.declared.told.Told.TheVariants as told
 use Rattle.tc_core.specs.declared.told.UndoStep.TheVariants as undo
@@ -29,7 +29,7 @@ use Rattle.tc_core.specs.declared.phase.Phase.TheVariants as phase
 use Rattle.tc_core.specs.TcView.{TcView, fresh_tc}
 use Rattle.tc_core.specs.Causes.{resend_refusal, running_refusal}
 use Rattle.tc_core.specs.Calls.{ReconnectGives, BeginGives, ActGives, ReadGives, SaveGives, BackGives, RollbackGives, CommitGives, UndoGives, ForceGives, ResendGives, TellStableGives}
-use Rattle.logical_log.specs.LogView.{last_not_session}
+use Rattle.tc_log.specs.LogView.{last_not_session}
 use Rattle.tc_core.specs.Replies.{reply_refusal, ReplyGives}
 use Rattle.tc_core.specs.Recovery.{RecoverGives, recover_refusal}
 use Rattle.tc_core.specs.LowWater.{LowWaterGives, RefusesLow, Announces}

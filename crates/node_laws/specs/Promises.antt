@@ -10,16 +10,16 @@ use Rattle.history.specs.History.{plain, entries_of}
 use Rattle.history.specs.ListMachine.{Machine}
 use Rattle.history.specs.Log.{record_at, answer_of, hist}
 use Rattle.log_laws.specs.Laws.{Names}
-use Rattle.logical_log.specs.LogView.{last_not_session}
+use Rattle.tc_log.specs.LogView.{last_not_session}
 use Rattle.codec.specs.declared.reply.Reply.{Reply}
 use Rattle.codec.specs.declared.reply.Reply.TheVariants as says
-use Rattle.page.specs.Leaf.{LeafView}
-use Rattle.page.specs.Honest.{IsHonestLeaf}
-use Rattle.page.specs.TakingBack.{taken_back}
-use Rattle.btree.specs.Leaves.{rows_of}
-use Rattle.recovery_laws.specs.Ready.{IsHonestTo, AllHave}
-use Rattle.dc_core.specs.system_txn.specs.Crashed.{crashed}
-use Rattle.dc_core.specs.system_txn.specs.Devices.{pages_of}
+use Rattle.dc_leaf.specs.Leaf.{LeafView}
+use Rattle.dc_leaf.specs.Honest.{IsHonestLeaf}
+use Rattle.dc_leaf.specs.TakingBack.{taken_back}
+use Rattle.dc_tree.specs.Leaves.{rows_of}
+use Rattle.dc_recovery.specs.Ready.{IsHonestTo, AllHave}
+use Rattle.dc_core.specs.dc_store.specs.Crashed.{crashed}
+use Rattle.dc_core.specs.dc_store.specs.Devices.{pages_of}
 use Rattle.dc_core.specs.DcView.{leaves}
 use Rattle.tc_core.specs.TcView.{TcView}
 use Rattle.simulation.specs.Lasting.{HasCommitted}

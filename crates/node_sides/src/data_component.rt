@@ -1,7 +1,7 @@
 //! The data component, which runs or is down.
 ghost use Rattle.stable.specs.Usage.{IsToCome};
 ghost use Rattle.node_laws.specs.dc_core.specs.Kept.{IsDc};
-ghost use Rattle.node_laws.specs.system_txn.specs.Kept.{IsRecoverable};
+ghost use Rattle.node_laws.specs.dc_store.specs.Kept.{IsRecoverable};
 ghost use Rattle.node_laws.specs.Component.{DcCrashesTo, DcRestartsTo};
 ghost use Rattle.node_sides.specs.Seen.{dc_of};
 

@@ -5,8 +5,8 @@ ghost use Rattle.std.specs.FinMap.{entries};
 ghost use Rattle.std.specs.Option.{option_copied};
 ghost use Rattle.record_key.specs.Lent.{op_lent};
 ghost use Rattle.stable.specs.Usage.{IsToCome, unused};
-ghost use Rattle.btree.specs.Leaves.{rows_of};
-ghost use Rattle.node_laws.specs.system_txn.specs.Kept.{IsRecoverable};
+ghost use Rattle.dc_tree.specs.Leaves.{rows_of};
+ghost use Rattle.node_laws.specs.dc_store.specs.Kept.{IsRecoverable};
 ghost use Rattle.codec.specs.Parted.{request_to};
 ghost use Rattle.codec.specs.Requests.{HasRequestNumbers};
 ghost use Rattle.node_laws.specs.dc_core.specs.DcView.{fresh_dc, leaves, value_at};
@@ -18,9 +18,9 @@ ghost use Rattle.node_laws.specs.Halves.{of_tc, moves, MayDc, DcLeads, DcGives, 
 use crate::data_component::DataComponent;
 use crate::put::put;
 use codec::{Asking, Reply, Request};
+use dc_leaf::AnswerSink;
 use node_laws::dc_core::Dc;
 use node_laws::{Event, Out};
-use page::AnswerSink;
 use record_key::{Key, OpRef, Refusal, Value, ValueRef};
 use stable::{CrashLog, CrashPages, MemLog, MemPages};
 use std::alloc::Global;
@@ -37,7 +37,7 @@ pub struct DcSide<D: CrashLog = MemLog, P: CrashPages = MemPages> {
 impl<D: CrashLog, P: CrashPages> Model for DcSide<D, P> {
     ghost use Rattle.std.specs.Coded.{codes};
     ghost use Rattle.record_key.specs.Table.{table_code};
-    ghost use Rattle.node_laws.specs.system_txn.specs.SystemView.{pages_code};
+    ghost use Rattle.node_laws.specs.dc_store.specs.SystemView.{pages_code};
     ghost use Rattle.node_laws.specs.Component as sides;
 
     ghost Value = { sides.DcSide };

@@ -2,7 +2,7 @@
 ghost use Rattle.std.specs.Prelude.{List};
 ghost use Rattle.std.specs.Coded.{codes};
 ghost use Rattle.codec.specs.declared.dc_record.DcRecord.{DcRecord};
-ghost use Rattle.node_laws.specs.system_txn.specs.Recovering.{HoldsFrames};
+ghost use Rattle.node_laws.specs.dc_store.specs.Recovering.{HoldsFrames};
 
 use stable::LogDevice;
 use std::marker::{Model, PhantomData, Send};

@@ -2,7 +2,7 @@
 ghost use Rattle.std.specs.Prelude.{List};
 ghost use Rattle.std.specs.Coded.{codes};
 ghost use Rattle.history.specs.declared.record.Record.{Record};
-ghost use Rattle.logical_log.specs.Opening.{IsLogOf};
+ghost use Rattle.tc_log.specs.Opening.{IsLogOf};
 
 use stable::LogDevice;
 use std::marker::{Model, PhantomData, Send};

@@ -1,13 +1,13 @@
 //! What is left of the data component while it is down: its devices.
 ghost use Rattle.std.specs.Prelude.{◌≡◌, ◌⊎◌, ℕ, ◌≤◌, [], List, length, IfOk, IfErr};
 ghost use Rattle.stable.specs.Usage.{IsToCome};
-ghost use Rattle.node_laws.specs.system_txn.specs.Kept.{IsRecoverable};
-ghost use Rattle.node_laws.specs.system_txn.specs.SystemView.{failing_at};
-ghost use Rattle.node_laws.specs.system_txn.specs.Recovering.{HoldsFrames};
+ghost use Rattle.node_laws.specs.dc_store.specs.Kept.{IsRecoverable};
+ghost use Rattle.node_laws.specs.dc_store.specs.SystemView.{failing_at};
+ghost use Rattle.node_laws.specs.dc_store.specs.Recovering.{HoldsFrames};
 ghost use Rattle.node_laws.specs.dc_core.specs.Kept.{IsDc};
 ghost use Rattle.node_laws.specs.dc_core.specs.Restarting.{restarted};
 ghost use Rattle.node_laws.specs.dc_core.specs.Serves.{with_system};
-ghost use Rattle.node_laws.specs.system_txn.specs.Crashed.{crashed};
+ghost use Rattle.node_laws.specs.dc_store.specs.Crashed.{crashed};
 ghost use Rattle.node_laws.specs.Component.{Keeps, dc_size, IsUp, IsDownWith};
 
 use crate::crashing::kept_of;
@@ -29,8 +29,8 @@ impl<D: CrashLog, P: CrashPages> Model for StoppedDc<D, P> {
     ghost use Rattle.std.specs.Prelude.{◌≡◌, []};
     ghost use Rattle.std.specs.Coded.{codes};
     ghost use Rattle.record_key.specs.Table.{table_code};
-    ghost use Rattle.node_laws.specs.system_txn.specs.SystemView.{pages_code};
-    ghost use Rattle.node_laws.specs.system_txn.specs.Recovering.{HoldsFrames};
+    ghost use Rattle.node_laws.specs.dc_store.specs.SystemView.{pages_code};
+    ghost use Rattle.node_laws.specs.dc_store.specs.Recovering.{HoldsFrames};
     ghost use Rattle.node_laws.specs.dc_core.specs.DcView.{DcView};
     ghost use Rattle.node_laws.specs.dc_core.specs.Kept.{IsDc};
     ghost use Rattle.node_laws.specs.Component.{found_on};

@@ -3,18 +3,18 @@ ghost use Rattle.std.specs.Prelude.{◌≡◌, ◌≤◌, ℕ, IfOk, IfErr, leng
 ghost use Rattle.stable.specs.Usage.{IsToCome, failing_in};
 ghost use Rattle.node_laws.specs.tc_core.specs.Kept.{IsTc};
 ghost use Rattle.node_laws.specs.tc_core.specs.Opened.{crashed, IsOpenedAgain};
-ghost use Rattle.logical_log.specs.Opening.{UsedToOpen};
+ghost use Rattle.tc_log.specs.Opening.{UsedToOpen};
 ghost use Rattle.node_laws.specs.tc_core.specs.TcView.{used_so};
 ghost use Rattle.node_laws.specs.Component.{Keeps, tc_size, LacksDevice};
 
 use crate::crashing::bytes_kept_of;
 use crate::found_tc_log::FoundTcLog;
-use logical_log::Refused;
 use node_laws::tc_core::Tc;
 use record_key::Refusal;
 use stable::CrashLog;
 use std::alloc::Global;
 use std::marker::Model;
+use tc_log::Refused;
 
 /// A device that a crash left. It is seen as what its log opens as.
 #[derive(Drop)]
@@ -26,7 +26,7 @@ pub struct StoppedTc<D: CrashLog> {
 impl<D: CrashLog> Model for StoppedTc<D> {
     ghost use Rattle.std.specs.Prelude.{◌≡◌, []};
     ghost use Rattle.std.specs.Coded.{codes};
-    ghost use Rattle.logical_log.specs.Opening.{IsLogOf};
+    ghost use Rattle.tc_log.specs.Opening.{IsLogOf};
     ghost use Rattle.node_laws.specs.tc_core.specs.TcView.{TcView};
     ghost use Rattle.node_laws.specs.tc_core.specs.Opened.{opens_as};
 

@@ -16,10 +16,10 @@ use crate::transaction_component::TransactionComponent;
 use codec::{GivenAnswer, Reply, Request};
 use node_laws::tc_core::{Forced, Heard, Phase, RecoverStep, Told, UndoStep};
 use node_laws::{Event, Out};
-use range_locks::Span;
 use record_key::{Key, Op, Refusal, Value};
 use stable::CrashLog;
 use std::alloc::Global;
+use tc_locks::Span;
 
 impl<D: CrashLog> TransactionComponent<D> {
     /// One of its events that is neither a crash nor a restart; a Reply event finds no reply of its number. What is sent

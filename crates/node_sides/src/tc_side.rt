@@ -3,7 +3,7 @@
 ghost use Rattle.std.specs.Prelude.{◌≡◌, ◌≤◌, ℕ, true, false, length, Some, None, OnOk, OnErr, IfOk, IfErr, IfSome, IfNone};
 ghost use Rattle.stable.specs.Usage.{IsToCome, unused};
 ghost use Rattle.framed_log.specs.Beginning.{beginning};
-ghost use Rattle.logical_log.specs.Spelled.{spelled};
+ghost use Rattle.tc_log.specs.Spelled.{spelled};
 ghost use Rattle.std.specs.Option.{option_copied, option_map};
 ghost use Rattle.codec.specs.Given.{answer_given};
 ghost use Rattle.codec.specs.declared.reply.Reply.TheVariants as says;

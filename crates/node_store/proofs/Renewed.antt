@@ -15,11 +15,11 @@ use Rattle.history.specs.Log.{record_at, before}
 use Rattle.history.specs.Values.{HasRightAnswers}
 use Rattle.log_laws.proofs.LegalLogs.{right_rest}
 use Rattle.log_laws.proofs.Records.{newest_at, older_at, before_new, before_old}
-use Rattle.log_rewriting.specs.Laws.{TellsOf}
-use Rattle.log_rewriting.specs.Written.{with_row, with_rows, written, RefusesRecords}
-use Rattle.log_rewriting.proofs.Tables.{rewriting_keeps}
-use Rattle.logical_log.specs.Opening.{IsLogOf}
-use Rattle.logical_log.proofs.Crashed.{opens_once, never_bad}
+use Rattle.tc_rewriting.specs.Laws.{TellsOf}
+use Rattle.tc_rewriting.specs.Written.{with_row, with_rows, written, RefusesRecords}
+use Rattle.tc_rewriting.proofs.Tables.{rewriting_keeps}
+use Rattle.tc_log.specs.Opening.{IsLogOf}
+use Rattle.tc_log.proofs.Crashed.{opens_once, never_bad}
 use Rattle.node_store.specs.declared.unopened.Cause.{Cause}
 use Rattle.node_store.specs.declared.unopened.Cause.TheVariants as no
 use Rattle.node_store.specs.Opening.{HasNoCheckpoint, IsFit, IsRefusedFor, IsWrongIn, IsWrongOn}

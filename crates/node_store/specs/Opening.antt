@@ -6,7 +6,7 @@ use Rattle.history.specs.declared.record.Record.{Record}
 use Rattle.history.specs.declared.record.Record.TheVariants as is
 use Rattle.history.specs.Log.{record_at, before}
 use Rattle.history.specs.Values.{HasRightAnswers}
-use Rattle.logical_log.specs.Opening.{IsLogOf, RefusesOpen, UsedToOpen}
+use Rattle.tc_log.specs.Opening.{IsLogOf, RefusesOpen, UsedToOpen}
 use Rattle.node_store.specs.declared.unopened.Cause.{Cause}
 use Rattle.node_store.specs.declared.unopened.Cause.TheVariants as no
 

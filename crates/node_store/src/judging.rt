@@ -8,10 +8,10 @@ use crate::unopened::Cause;
 use ghost_list::GhostList;
 use history::Record;
 use log_replay::Replay;
-use logical_log::Judge;
 use record_key::Refusal;
 use std::alloc::Global;
 use std::marker::Model;
+use tc_log::Judge;
 
 /// The records of a log that were shown, judged. Once one was wrong the others aren't looked at any more. The log is read
 /// on all the same: a bad frame, or a record that doesn't fit, is named rather than one that is wrong.

@@ -17,4 +17,4 @@ pub use renewal::renew;
 pub use unopened::{Cause, Unopened};
 
 // What a crate above names of those below.
-pub use world;
+pub use node_world;

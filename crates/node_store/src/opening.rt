@@ -1,22 +1,22 @@
 //! A node is opened on a log.
 ghost use Rattle.std.specs.Prelude.{◌≡◌, [], IfOk, IfErr};
 ghost use Rattle.std.specs.FinMap as map;
-ghost use Rattle.world.specs.dc_core.specs.DcView.{fresh_dc};
+ghost use Rattle.node_world.specs.dc_core.specs.DcView.{fresh_dc};
 ghost use Rattle.simulation.specs.Reading.{machine_read};
 ghost use Rattle.stable.specs.Usage.{called as called_once};
-ghost use Rattle.world.specs.tc_core.specs.Opening.{IsOpened};
-ghost use Rattle.world.specs.node_laws.specs.Node.{joined};
-ghost use Rattle.world.specs.node_laws.specs.Simulation.{NodeStandsFor};
+ghost use Rattle.node_world.specs.tc_core.specs.Opening.{IsOpened};
+ghost use Rattle.node_world.specs.node_laws.specs.Node.{joined};
+ghost use Rattle.node_world.specs.node_laws.specs.Simulation.{NodeStandsFor};
 ghost use Rattle.node_store.specs.Opening.{IsFit, IsRefusedFor, UsedInVain};
 
 use crate::judging::Judging;
 use crate::unopened::Unopened;
-use logical_log::Found;
+use node_world::World;
+use node_world::dc_core::Dc;
+use node_world::tc_core::Tc;
 use stable::{CrashLog, CrashPages};
 use std::alloc::Global;
-use world::World;
-use world::dc_core::Dc;
-use world::tc_core::Tc;
+use tc_log::Found;
 
 /// A node on the log that the device has. Both components run, without a session; the data component has no records,
 /// and logs on a device of its own and pages that are empty: the first settle brings it all that stands in the log.

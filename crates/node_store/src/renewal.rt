@@ -4,24 +4,24 @@ ghost use Rattle.std.specs.FinMap as map;
 ghost use Rattle.std.specs.FinMap.{entries};
 ghost use Rattle.history.specs.History.{plain};
 ghost use Rattle.history.specs.ListMachine.{Machine, is_live};
-ghost use Rattle.log_rewriting.specs.Written.{written, RefusesRecords, count_with};
-ghost use Rattle.logical_log.specs.Opening.{IsLogOf};
-ghost use Rattle.btree.specs.Leaves.{rows_of};
-ghost use Rattle.world.specs.dc_core.specs.DcView.{fresh_dc, leaves};
+ghost use Rattle.tc_rewriting.specs.Written.{written, RefusesRecords, count_with};
+ghost use Rattle.tc_log.specs.Opening.{IsLogOf};
+ghost use Rattle.dc_tree.specs.Leaves.{rows_of};
+ghost use Rattle.node_world.specs.dc_core.specs.DcView.{fresh_dc, leaves};
 ghost use Rattle.simulation.specs.Reading.{machine_read, txn_read};
-ghost use Rattle.world.specs.node_laws.specs.Node.{joined};
-ghost use Rattle.world.specs.node_laws.specs.Simulation.{NodeStandsFor};
-ghost use Rattle.world.specs.Quiet.{IsQuiet};
+ghost use Rattle.node_world.specs.node_laws.specs.Node.{joined};
+ghost use Rattle.node_world.specs.node_laws.specs.Simulation.{NodeStandsFor};
+ghost use Rattle.node_world.specs.Quiet.{IsQuiet};
 ghost use Rattle.node_store.specs.Renewal.{RefusesRenewal};
 
 use crate::opening::open;
 use crate::unopened::Cause;
-use log_rewriting::rewrite;
-use logical_log::Refused;
+use node_world::World;
 use record_key::Refusal;
 use stable::{CrashLog, CrashPages};
 use std::alloc::Global;
-use world::World;
+use tc_log::Refused;
+use tc_rewriting::rewrite;
 
 /// A node, on an empty device, that has just the records of a quiet one: its log is that of one transaction, which has
 /// inserted them and has committed, and the rest is as `open` makes it. So the first settle brings it its records, and

@@ -4,8 +4,8 @@ use Rattle.std.specs.Prelude.{IsSome}
 use Rattle.record_key.specs.declared.op.Op.{Op}
 use Rattle.history.specs.Log.{HasRequest, record_at, request_in}
 use Rattle.history.specs.declared.record.Record.{Record}
-use Rattle.restart.specs.Losers.{IsLeast}
-use Rattle.restart.specs.Redo.{Asks}
+use Rattle.tc_restart.specs.Losers.{IsLeast}
+use Rattle.tc_restart.specs.Redo.{Asks}
 use Rattle.tc_core.specs.Undo.{AsksNothing}
 
 pub none_asks : (log : List Record) (from below : ℕ) → ((n : ℕ) → Asks log from below n → ⊥)

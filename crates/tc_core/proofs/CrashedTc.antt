@@ -8,11 +8,11 @@ use Rattle.history.specs.declared.record.Record.TheVariants as is
 use Rattle.log_laws.proofs.Checking.{latest_unique}
 use Rattle.stable.specs.Usage.{Usage, called, called_often}
 use Rattle.framed_log.specs.Beginning.{beginning}
-use Rattle.logical_log.specs.Spelled.{spelled}
-use Rattle.logical_log.proofs.Crashed.{opens_once}
-use Rattle.restart.specs.Losers.{IsLoser}
-use Rattle.logical_log.specs.Checkpointed.{IsCheckpointed, raised_by}
-use Rattle.restart.proofs.Passing.{legal_part}
+use Rattle.tc_log.specs.Spelled.{spelled}
+use Rattle.tc_log.proofs.Crashed.{opens_once}
+use Rattle.tc_restart.specs.Losers.{IsLoser}
+use Rattle.tc_log.specs.Checkpointed.{IsCheckpointed, raised_by}
+use Rattle.tc_restart.proofs.Passing.{legal_part}
 use Rattle.tc_core.specs.Kept.{IsTc}
 use Rattle.tc_core.specs.Opening.{opened}
 use Rattle.tc_core.specs.Opened.{checkpointed_in, UsedByOpening, CrashedIsKept, OpensAgain, SameAreLost}

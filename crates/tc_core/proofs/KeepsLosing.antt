@@ -10,21 +10,21 @@ use Rattle.history.specs.declared.record.Record.TheVariants as is
 use Rattle.history.specs.Log.{answer_of}
 use Rattle.history.specs.Legal.{Fits, IsIdle, IsLegal}
 use Rattle.log_laws.proofs.Records.{AStep, ARequest, at_newest, newest_at}
-use Rattle.range_locks.specs.Locks.{set_spans}
-use Rattle.range_locks.proofs.Tables.{set_other}
-use Rattle.logical_log.specs.LogView.{is_spent}
-use Rattle.compensation.specs.NextUndo.{Compensates}
-use Rattle.restart.specs.declared.loser.Loser.{Loser}
-use Rattle.restart.specs.Losers.{LosersView, txns, IsLoser, AreLosers, IsLeft, IsLeast, MayEnd, LosesNext, TakesComp, TakesEnd}
-use Rattle.restart.proofs.Losing.{loser_kept, loser_had}
-use Rattle.restart.proofs.Listed.{undoing_loser, undoing_at, done_ends}
+use Rattle.tc_locks.specs.Locks.{set_spans}
+use Rattle.tc_locks.proofs.Tables.{set_other}
+use Rattle.tc_log.specs.LogView.{is_spent}
+use Rattle.tc_undo.specs.NextUndo.{Compensates}
+use Rattle.tc_restart.specs.declared.loser.Loser.{Loser}
+use Rattle.tc_restart.specs.Losers.{LosersView, txns, IsLoser, AreLosers, IsLeft, IsLeast, MayEnd, LosesNext, TakesComp, TakesEnd}
+use Rattle.tc_restart.proofs.Losing.{loser_kept, loser_had}
+use Rattle.tc_restart.proofs.Listed.{undoing_loser, undoing_at, done_ends}
 use Rattle.tc_core.specs.declared.open_txn.OpenTxn.{OpenTxn}
 use Rattle.tc_core.specs.declared.phase.Phase.{Phase}
 use Rattle.tc_core.specs.declared.phase.Phase.TheVariants as phase
 use Rattle.tc_core.specs.OpenTxns.{find}
 use Rattle.tc_core.specs.TcView.{TcView, is_none_lost}
 use Rattle.tc_core.specs.Locking.{is_listed, is_holder, HoldOperations}
-use Rattle.logical_log.specs.Undoing.{inverse_at, next_at}
+use Rattle.tc_log.specs.Undoing.{inverse_at, next_at}
 use Rattle.tc_core.specs.Changes.{waits_for, lost_comp, lost_compensated, lost_ended}
 use Rattle.tc_core.specs.Kept.{AreOpen, IsPhase, IsPhaseOf, MayLack, IsOwedAnswer, closing, IsTc}
 use Rattle.tc_core.proofs.Committing.{holder_more, holder_alike}

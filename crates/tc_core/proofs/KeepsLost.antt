@@ -8,8 +8,8 @@ use Rattle.history.specs.declared.record.Record.{Record}
 use Rattle.history.specs.declared.record.Record.TheVariants as is
 use Rattle.history.specs.Log.{record_at, answer_of, request_in, Requests}
 use Rattle.history.specs.Legal.{FitsAnswer}
-use Rattle.logical_log.specs.LogView.{is_spent}
-use Rattle.restart.specs.Losers.{LosersView}
+use Rattle.tc_log.specs.LogView.{is_spent}
+use Rattle.tc_restart.specs.Losers.{LosersView}
 use Rattle.tc_core.specs.declared.open_txn.OpenTxn.{OpenTxn}
 use Rattle.tc_core.specs.declared.phase.Phase.{Phase}
 use Rattle.tc_core.specs.declared.phase.Phase.TheVariants as phase

@@ -6,12 +6,12 @@ use Rattle.record_key.specs.Table.{key_of}
 use Rattle.history.specs.declared.record.Record.{Record}
 use Rattle.history.specs.Log.{IsOpen, IsOpBy}
 use Rattle.record_key.specs.Order.{has_key, HasKeys}
-use Rattle.range_locks.specs.Meant.{range_of}
+use Rattle.tc_locks.specs.Meant.{range_of}
 use Rattle.history.specs.Spans.{Conflict, changed_span}
 use Rattle.history.specs.Spans as law
-use Rattle.range_locks.specs.declared.span.Span.{Span}
-use Rattle.range_locks.specs.Locks.{spans_of, IsGrantable}
-use Rattle.range_locks.proofs.Tables.{set_own, set_other}
+use Rattle.tc_locks.specs.declared.span.Span.{Span}
+use Rattle.tc_locks.specs.Locks.{spans_of, IsGrantable}
+use Rattle.tc_locks.proofs.Tables.{set_own, set_other}
 use Rattle.tc_core.specs.declared.open_txn.OpenTxn.{OpenTxn}
 use Rattle.tc_core.specs.declared.open_txn.Read.{Read}
 use Rattle.tc_core.specs.declared.open_txns.Wanted.TheVariants.{Reader}

@@ -15,7 +15,7 @@ use Rattle.tc_core.specs.declared.open_txn.OpenTxn.{OpenTxn}
 use Rattle.tc_core.specs.declared.open_txn.Rollback.{Rollback}
 use Rattle.tc_core.specs.Changes.{begun_txn, acted_txn, compensated_txn, waits_for, answered_txn}
 use Rattle.tc_core.specs.Kept.{IsOpenTxn, IsWaiting, Waits}
-use Rattle.logical_log.proofs.Index.{record_at-zero}
+use Rattle.tc_log.proofs.Index.{record_at-zero}
 use Rattle.tc_core.proofs.Keeps.{open_was, open_kept, unended_next, still_open, bounded}
 use Rattle.tc_core.proofs.KeepsIdle.{own_request, leaves_open, idle_now, waits_now, idle_after}
 

@@ -18,12 +18,12 @@ use Rattle.tc_core.specs.declared.open_txn.OpenTxn.{OpenTxn}
 use Rattle.tc_core.specs.declared.open_txn.Read.{Read}
 use Rattle.tc_core.specs.declared.open_txn.Rollback.{Rollback}
 use Rattle.tc_core.specs.OpenTxns.{find, replace, AreBelow}
-use Rattle.range_locks.specs.Locks.{spans_of, IsGrantable}
-use Rattle.range_locks.proofs.Tables.{set_other}
+use Rattle.tc_locks.specs.Locks.{spans_of, IsGrantable}
+use Rattle.tc_locks.proofs.Tables.{set_other}
 use Rattle.tc_core.specs.TcView.{TcView, used_so}
 use Rattle.stable.specs.Usage.{Usage}
-use Rattle.logical_log.specs.LogView.{is_spent}
-use Rattle.restart.specs.Losers.{txns}
+use Rattle.tc_log.specs.LogView.{is_spent}
+use Rattle.tc_restart.specs.Losers.{txns}
 use Rattle.tc_core.specs.Locking.{is_listed, is_holder}
 use Rattle.tc_core.specs.Changes.{let_go, logged_session, reconnected, begun_txn, begun, acted_txn, acted, forced, answered_txn, answered, rolling_txn, rolled, saved_txn, saved, going_back_txn, going_back, back_txn, is_back}
 use Rattle.tc_core.specs.Replies.{takes, is_number, if_awaits, asker, awaiting, next_phase, passed}
@@ -33,7 +33,7 @@ use Rattle.tc_core.specs.Kept.{IsTc, IsOwedAnswer, closing, IsRollback, IsOpenTx
 use Rattle.tc_core.proofs.Finding.{found_number, found_own}
 use Rattle.tc_core.proofs.Committing.{none_committing, open_unlisted}
 use Rattle.tc_core.proofs.LettingGo.{let_go_held, let_go_other, early_taken, early_let_go}
-use Rattle.logical_log.proofs.Index.{nothing_answered}
+use Rattle.tc_log.proofs.Index.{nothing_answered}
 use Rattle.tc_core.proofs.Keeps.{open_had, open_was, unended_next, IsBounded}
 use Rattle.tc_core.proofs.Losers.{listed_loser, loser_listed, unlisted_late, lost_spared, lost_started, lost_passed, lost_more, late_at}
 use Rattle.tc_core.proofs.Low.{low_within, low_longer, low_forced, low_started}

@@ -7,18 +7,18 @@ use Rattle.history.specs.Legal.{Fits, Inverts, IsLatestOrNone, IsLegal, Stands}
 use Rattle.log_laws.proofs.LegalLogs.{stands_number}
 use Rattle.log_laws.proofs.Checking.{latest_unique}
 use Rattle.log_laws.proofs.Undo.{latest_found, earlier_found}
-use Rattle.compensation.specs.NextUndo.{Compensates, IsUndone}
-use Rattle.range_locks.proofs.Tables.{set_other}
+use Rattle.tc_undo.specs.NextUndo.{Compensates, IsUndone}
+use Rattle.tc_locks.proofs.Tables.{set_other}
 use Rattle.tc_core.specs.declared.open_txn.OpenTxn.{OpenTxn}
 use Rattle.tc_core.specs.declared.open_txn.Rollback.{Rollback}
 use Rattle.tc_core.specs.OpenTxns.{find}
-use Rattle.logical_log.specs.LogView.{is_spent}
+use Rattle.tc_log.specs.LogView.{is_spent}
 use Rattle.tc_core.specs.TcView.{TcView}
-use Rattle.logical_log.specs.Undoing.{inverse_at, next_at}
+use Rattle.tc_log.specs.Undoing.{inverse_at, next_at}
 use Rattle.tc_core.specs.Changes.{waits_for, compensated_txn, compensated, wholly_undone, committed}
 use Rattle.tc_core.specs.Kept.{IsTc, closing}
 use Rattle.tc_core.proofs.Committing.{holder_closing, commits_more}
-use Rattle.restart.specs.Losers.{txns}
+use Rattle.tc_restart.specs.Losers.{txns}
 use Rattle.tc_core.proofs.Low.{low_longer}
 use Rattle.tc_core.proofs.LettingGo.{early_freed}
 use Rattle.tc_core.proofs.Losers.{lost_more, late_at}

@@ -5,8 +5,8 @@ use Rattle.std.proofs.lemmas.Bool.{cases_eq, cases_Bool}
 use Rattle.std.proofs.lemmas.List.Folds.{list_any-append}
 use Rattle.history.specs.declared.record.Record.{Record}
 use Rattle.history.specs.Spans.{Span}
-use Rattle.range_locks.specs.Locks.{LocksView, spans_of, set_spans, IsTable}
-use Rattle.range_locks.proofs.Tables.{set_table, set_own, set_other}
+use Rattle.tc_locks.specs.Locks.{LocksView, spans_of, set_spans, IsTable}
+use Rattle.tc_locks.proofs.Tables.{set_table, set_own, set_other}
 use Rattle.tc_core.specs.declared.open_txn.OpenTxn.{OpenTxn}
 use Rattle.tc_core.specs.OpenTxns.{find}
 use Rattle.tc_core.specs.Changes.{let_go}

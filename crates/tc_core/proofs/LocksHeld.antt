@@ -8,8 +8,8 @@ use Rattle.history.specs.declared.record.Record.TheVariants as is
 use Rattle.history.specs.Legal.{IsLegal}
 use Rattle.history.specs.Log.{op_of}
 use Rattle.history.specs.Spans.{Mode, Increment, Exclusive, Shared, do_conflict, Span, Conflict, AnyConflict, changed_span}
-use Rattle.range_locks.specs.Locks.{LocksView, spans_of, set_spans, IsGrantable}
-use Rattle.range_locks.proofs.Tables.{set_table, set_own, set_other}
+use Rattle.tc_locks.specs.Locks.{LocksView, spans_of, set_spans, IsGrantable}
+use Rattle.tc_locks.proofs.Tables.{set_table, set_own, set_other}
 use Rattle.tc_core.specs.declared.open_txn.OpenTxn.{OpenTxn}
 use Rattle.tc_core.specs.OpenTxns.{find, replace, without, AreBelow}
 use Rattle.tc_core.specs.Locking.{op_spans, held_spans, is_holder, is_listed, is_changing, ConflictNowhere, AreHeld}

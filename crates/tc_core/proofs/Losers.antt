@@ -14,12 +14,12 @@ use Rattle.history.specs.Log.{answer_of, Requests}
 use Rattle.history.specs.Legal.{Fits, IsLegal}
 use Rattle.log_laws.proofs.Records.{AStep, ARequest, older_at, kept_at, newest_at}
 use Rattle.log_laws.proofs.LegalLogs.{answered_push, step_number}
-use Rattle.restart.specs.Lists.{times}
-use Rattle.restart.specs.Losers.{LosersView, txns, IsLoser, AreLosers}
-use Rattle.restart.specs.Laws.{SparesBelow}
-use Rattle.restart.proofs.Lists.{times_other}
-use Rattle.restart.proofs.Losing.{loser_kept, loser_had}
-use Rattle.restart.proofs.Taking.{spared_step, spared_commit, spared_end, others_spare}
+use Rattle.tc_restart.specs.Lists.{times}
+use Rattle.tc_restart.specs.Losers.{LosersView, txns, IsLoser, AreLosers}
+use Rattle.tc_restart.specs.Laws.{SparesBelow}
+use Rattle.tc_restart.proofs.Lists.{times_other}
+use Rattle.tc_restart.proofs.Losing.{loser_kept, loser_had}
+use Rattle.tc_restart.proofs.Taking.{spared_step, spared_commit, spared_end, others_spare}
 use Rattle.tc_core.specs.declared.phase.Phase.{Phase}
 use Rattle.tc_core.specs.declared.phase.Phase.TheVariants as phase
 use Rattle.tc_core.specs.declared.open_txn.OpenTxn.{OpenTxn}

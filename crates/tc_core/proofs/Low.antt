@@ -6,11 +6,11 @@ use Rattle.history.specs.declared.record.Record.TheVariants as is
 use Rattle.history.specs.Log.{record_at, request_in}
 use Rattle.history.specs.Legal.{FitsCheckpoint}
 use Rattle.framed_log.specs.Beginning.{beginning}
-use Rattle.logical_log.proofs.Answered.{answered_whole}
+use Rattle.tc_log.proofs.Answered.{answered_whole}
 use Rattle.framed_log.proofs.Beginning.{everything, shorter}
-use Rattle.logical_log.proofs.Index.{record_at-zero}
-use Rattle.logical_log.specs.Checkpointed.{raised_by}
-use Rattle.logical_log.proofs.Checkpointed.{raised_more}
+use Rattle.tc_log.proofs.Index.{record_at-zero}
+use Rattle.tc_log.specs.Checkpointed.{raised_by}
+use Rattle.tc_log.proofs.Checkpointed.{raised_more}
 use Rattle.tc_core.specs.Changes.{greater}
 use Rattle.tc_core.specs.TcView.{TcView}
 use Rattle.tc_core.specs.LowWater.{MayAnnounce}

@@ -19,14 +19,14 @@ use Rattle.history.specs.Spans.{at_key, AnyConflict, changed_span, do_conflict, 
 use Rattle.log_laws.proofs.Sharing.{share_adds, modes_agree}
 use Rattle.log_laws.proofs.Records.{AnOp, at_newest, at_older, not_newest, since}
 use Rattle.log_laws.proofs.LegalLogs.{begun_number, fits_at, op_number}
-use Rattle.logical_log.proofs.Answered.{answered_longer}
+use Rattle.tc_log.proofs.Answered.{answered_longer}
 use Rattle.framed_log.proofs.Beginning.{everything}
 use Rattle.stable.specs.Usage.{Usage}
 use Rattle.framed_log.specs.Beginning.{beginning}
-use Rattle.range_locks.specs.Locks.{LocksView, spans_of}
-use Rattle.restart.specs.Losers.{LosersView, txns, AreLosers}
-use Rattle.logical_log.specs.Checkpointed.{IsCheckpointed}
-use Rattle.restart.specs.Plan.{IsRedoStart}
+use Rattle.tc_locks.specs.Locks.{LocksView, spans_of}
+use Rattle.tc_restart.specs.Losers.{LosersView, txns, AreLosers}
+use Rattle.tc_log.specs.Checkpointed.{IsCheckpointed}
+use Rattle.tc_restart.specs.Plan.{IsRedoStart}
 use Rattle.tc_core.specs.Locking.{op_spans, is_listed, is_changing, ConflictNowhere, AreHeld, HoldOperations}
 use Rattle.tc_core.specs.Opening.{HoldsOpen, opened}
 use Rattle.tc_core.specs.Kept.{IsTc}

@@ -5,11 +5,11 @@ use Rattle.std.proofs.lemmas.List.Elements.{All-weaker}
 use Rattle.history.specs.declared.record.Record.{Record}
 use Rattle.history.specs.Log.{IsOpen}
 use Rattle.log_laws.proofs.LegalLogs.{begun_number}
-use Rattle.range_locks.specs.Locks.{spans_of, IsTable}
-use Rattle.range_locks.proofs.Tables.{empty_table, set_table, set_own, set_other}
-use Rattle.restart.specs.Lists.{times}
-use Rattle.restart.specs.Losers.{IsLoser}
-use Rattle.restart.proofs.Lists.{times_first, times_other, not_listed}
+use Rattle.tc_locks.specs.Locks.{spans_of, IsTable}
+use Rattle.tc_locks.proofs.Tables.{empty_table, set_table, set_own, set_other}
+use Rattle.tc_restart.specs.Lists.{times}
+use Rattle.tc_restart.specs.Losers.{IsLoser}
+use Rattle.tc_restart.proofs.Lists.{times_first, times_other, not_listed}
 use Rattle.tc_core.specs.Locking.{op_spans}
 use Rattle.tc_core.specs.Opened.{open_in, locks_in, locks_of}
 use Rattle.tc_core.specs.Opening.{HoldsOpen}

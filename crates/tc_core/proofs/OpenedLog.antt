@@ -3,9 +3,9 @@ use Rattle.std.proofs.Common.{◌≡◌, ℕ, ◌+◌, ◌-◌, List, [], ◌∷
 use Rattle.history.specs.declared.record.Record.{Record}
 use Rattle.history.specs.Legal.{IsLatestOrNone}
 use Rattle.stable.specs.Usage.{Usage, called, called_often}
-use Rattle.logical_log.specs.Checkpointed.{IsCheckpointed}
-use Rattle.logical_log.specs.Opening.{cut_calls}
-use Rattle.logical_log.proofs.Checkpointed.{raised_more}
+use Rattle.tc_log.specs.Checkpointed.{IsCheckpointed}
+use Rattle.tc_log.specs.Opening.{cut_calls}
+use Rattle.tc_log.proofs.Checkpointed.{raised_more}
 use Rattle.tc_core.specs.Kept.{IsTc}
 use Rattle.tc_core.specs.Opening.{opened}
 use Rattle.tc_core.specs.Opened.{checkpointed_in, losers_of, locks_of, OpenedIsKept, OpenedIsOpened}

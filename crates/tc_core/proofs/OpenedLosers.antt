@@ -14,10 +14,10 @@ use Rattle.log_laws.proofs.Checking.{latest_some}
 use Rattle.log_laws.proofs.Records.{AStep, at_newest, newest_at, older_at, record_new, not_newest}
 use Rattle.log_laws.proofs.LegalLogs.{begun_number, kept_begun, step_number, stands_number}
 use Rattle.log_laws.proofs.Undo.{latest_as, latest_found, steps_there, steps_back}
-use Rattle.restart.specs.declared.loser.Loser.{Loser}
-use Rattle.restart.specs.Lists.{times, Lists}
-use Rattle.restart.specs.Losers.{IsLoser, IsUndone, IsAt, AreLosers}
-use Rattle.restart.proofs.Lists.{lists_same, lists_more, not_listed}
+use Rattle.tc_restart.specs.declared.loser.Loser.{Loser}
+use Rattle.tc_restart.specs.Lists.{times, Lists}
+use Rattle.tc_restart.specs.Losers.{IsLoser, IsUndone, IsAt, AreLosers}
+use Rattle.tc_restart.proofs.Lists.{lists_same, lists_more, not_listed}
 use Rattle.tc_core.specs.Opened.{begun_in, open_in, last_in, loser_in, is_undone, losers_of}
 use Rattle.tc_core.specs.Replies.{is_number}
 

@@ -1,7 +1,7 @@
 -- The reads that open transactions wait for, when one is added, replaced or ends.
 use Rattle.std.proofs.Common.{◌≡◌, ◌≢◌, ℕ, ◌<◌, ◌≤◌, List, ◌∷◌, Option, Some, None, refl, sym, ◌∙◌, subst, arith, inl, inr}
 use Rattle.std.proofs.lemmas.Bool.{cases_eq}
-use Rattle.range_locks.specs.Locks.{LocksView, spans_of}
+use Rattle.tc_locks.specs.Locks.{LocksView, spans_of}
 use Rattle.tc_core.specs.declared.open_txn.OpenTxn.{OpenTxn}
 use Rattle.tc_core.specs.declared.open_txn.Read.{Read}
 use Rattle.tc_core.specs.OpenTxns.{find, replace, without}

@@ -10,18 +10,18 @@ use Rattle.history.specs.declared.record.Record.TheVariants as is
 use Rattle.history.specs.Log.{record_at}
 use Rattle.history.specs.Legal.{IsLegal}
 use Rattle.record_key.specs.declared.op.Op.{Op}
-use Rattle.range_locks.specs.declared.span.Mode.{Mode}
-use Rattle.range_locks.specs.declared.span.Mode.TheVariants as held
-use Rattle.range_locks.specs.Meant.{mode_meant}
+use Rattle.tc_locks.specs.declared.span.Mode.{Mode}
+use Rattle.tc_locks.specs.declared.span.Mode.TheVariants as held
+use Rattle.tc_locks.specs.Meant.{mode_meant}
 use Rattle.history.specs.Spans as law
 use Rattle.history.specs.Spans.{at_key, changed_span}
 use Rattle.framed_log.specs.Beginning.{beginning}
 use Rattle.framed_log.proofs.Beginning.{length_beginning}
-use Rattle.logical_log.proofs.Spelled.{has_record}
+use Rattle.tc_log.proofs.Spelled.{has_record}
 use Rattle.log_laws.proofs.LegalLogs.{begun_number}
-use Rattle.range_locks.specs.Rebuilt.{Listed, listed_spans}
-use Rattle.range_locks.proofs.Rebuilding.{span_at}
-use Rattle.restart.proofs.Passing.{part_more, legal_part}
+use Rattle.tc_locks.specs.Rebuilt.{Listed, listed_spans}
+use Rattle.tc_locks.proofs.Rebuilding.{span_at}
+use Rattle.tc_restart.proofs.Passing.{part_more, legal_part}
 use Rattle.tc_core.specs.Locking.{op_spans, held_mode}
 use Rattle.tc_core.specs.Opening.{key_noted, spans_if}
 

@@ -3,8 +3,8 @@ use Rattle.std.proofs.Common.{◌≡◌, ℕ, Bool, false, Option, Some, None, r
 use Rattle.record_key.specs.declared.op.Op.{Op}
 use Rattle.codec.specs.declared.request.Request.TheVariants as asks
 use Rattle.history.specs.Log.{HasRequest}
-use Rattle.restart.specs.Losers.{IsLeast}
-use Rattle.restart.specs.Redo.{Asks}
+use Rattle.tc_restart.specs.Losers.{IsLeast}
+use Rattle.tc_restart.specs.Redo.{Asks}
 use Rattle.tc_core.specs.declared.phase.Phase.{Phase}
 use Rattle.tc_core.specs.declared.phase.Phase.TheVariants as phase
 use Rattle.tc_core.specs.Recovery.{Redoes, SendsAt, SendsOp, redo_request, redoing}

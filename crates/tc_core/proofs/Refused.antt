@@ -7,7 +7,7 @@ use Rattle.tc_core.specs.declared.change.Change.{Change}
 use Rattle.tc_core.specs.Changed.{changed, happens_to, happens}
 use Rattle.tc_core.specs.OpenTxns.{find, replace}
 use Rattle.stable.specs.Usage.{is_due, failed}
-use Rattle.logical_log.specs.LogView.{LogView, spent_refusal, after_refusal}
+use Rattle.tc_log.specs.LogView.{LogView, spent_refusal, after_refusal}
 use Rattle.record_key.specs.FirstCause.{MayRefuse}
 use Rattle.tc_core.specs.Locking.{spent_of}
 use Rattle.tc_core.specs.TcView.{TcView}

@@ -6,7 +6,7 @@ use Rattle.record_key.specs.declared.refusal.Refusal.{Refusal}
 use Rattle.tc_core.specs.declared.open_txn.Rollback.{Rollback}
 use Rattle.tc_core.specs.declared.told.UndoStep.{UndoStep}
 use Rattle.tc_core.specs.OpenTxns.{find}
-use Rattle.logical_log.specs.LogView.{LogView, is_spent, spent_refusal, after_refusal}
+use Rattle.tc_log.specs.LogView.{LogView, is_spent, spent_refusal, after_refusal}
 use Rattle.record_key.specs.FirstCause.{MayRefuse}
 use Rattle.tc_core.specs.Locking.{spent_of}
 use Rattle.tc_core.specs.TcView.{TcView}

@@ -2,8 +2,8 @@
 use Rattle.std.proofs.Common.{◌≡◌, ◌≢◌, ℕ, List, [], ◌∷◌, length, sym, ap, ◌∙◌, arith}
 use Rattle.std.specs.Prelude.{drop}
 use Rattle.history.specs.Spans.{Span}
-use Rattle.range_locks.specs.Locks.{LocksView, spans_of, set_spans, IsTable}
-use Rattle.range_locks.proofs.Tables.{set_own, set_again, set_same}
+use Rattle.tc_locks.specs.Locks.{LocksView, spans_of, set_spans, IsTable}
+use Rattle.tc_locks.proofs.Tables.{set_own, set_again, set_same}
 
 module _ (locks taken : LocksView) (t : ℕ) (s : Span) (table : IsTable locks)
     (takes : taken ≡ set_spans t (s ∷ spans_of locks t) locks) where

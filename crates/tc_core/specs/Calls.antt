@@ -4,14 +4,14 @@ use Rattle.record_key.specs.declared.op.Op.{Op}
 use Rattle.record_key.specs.declared.refusal.Refusal.{Refusal}
 use Rattle.record_key.specs.declared.refusal.Refusal.TheVariants.{Device}
 use Rattle.stable.specs.Usage.{is_due}
-use Rattle.range_locks.specs.Meant.{range_of}
+use Rattle.tc_locks.specs.Meant.{range_of}
 use Rattle.history.specs.Log.{Requests}
 use Rattle.history.specs.Spans.{changed_span}
 use Rattle.codec.specs.declared.request.Request.{Request}
 use Rattle.codec.specs.declared.request.Request.TheVariants as asks
-use Rattle.range_locks.specs.declared.span.Span.{Span}
-use Rattle.range_locks.specs.declared.span.Span.TheVariants.{Key, Range}
-use Rattle.range_locks.specs.Locks.{IsGrantable}
+use Rattle.tc_locks.specs.declared.span.Span.{Span}
+use Rattle.tc_locks.specs.declared.span.Span.TheVariants.{Key, Range}
+use Rattle.tc_locks.specs.Locks.{IsGrantable}
 use Rattle.tc_core.specs.declared.open_txn.OpenTxn.{OpenTxn}
 use Rattle.tc_core.specs.declared.open_txn.Read.{Read}
 use Rattle.tc_core.specs.declared.open_txn.Rollback.{Rollback}
@@ -19,8 +19,8 @@ use Rattle.tc_core.specs.declared.told.Connecting.{Connecting}
 use Rattle.tc_core.specs.declared.told.Forced.{Forced}
 use Rattle.tc_core.specs.declared.told.UndoStep.{UndoStep}
 use Rattle.tc_core.specs.declared.told.UndoStep.TheVariants as step
-use Rattle.logical_log.specs.LogView.{spent_refusal, last_not_session}
-use Rattle.logical_log.specs.Spelled.{IsAskedBy}
+use Rattle.tc_log.specs.LogView.{spent_refusal, last_not_session}
+use Rattle.tc_log.specs.Spelled.{IsAskedBy}
 use Rattle.tc_core.specs.OpenTxns.{find}
 use Rattle.tc_core.specs.TcView.{TcView, is_serving, failed}
 use Rattle.tc_core.specs.Refusing.{Refuses}

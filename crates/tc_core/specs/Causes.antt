@@ -5,10 +5,10 @@ use Rattle.record_key.specs.declared.refusal.Refusal.TheVariants.{NotConnected, 
 use Rattle.record_key.specs.FirstCause.{first_of, or_else}
 use Rattle.history.specs.Spans.{Span}
 use Rattle.record_key.specs.Order.{Range, ends_above}
-use Rattle.range_locks.specs.Locks.{IsGrantable, IsLeastHolder}
+use Rattle.tc_locks.specs.Locks.{IsGrantable, IsLeastHolder}
 use Rattle.tc_core.specs.declared.open_txn.OpenTxn.{OpenTxn}
 use Rattle.tc_core.specs.declared.open_txn.Rollback.{Rollback}
-use Rattle.logical_log.specs.LogView.{is_spent, spent_refusal}
+use Rattle.tc_log.specs.LogView.{is_spent, spent_refusal}
 use Rattle.tc_core.specs.OpenTxns.{find}
 use Rattle.tc_core.specs.TcView.{TcView, is_unconnected, is_running, is_serving, is_rolling, is_waiting}
 use Rattle.tc_core.specs.Refusing.{Refuses}

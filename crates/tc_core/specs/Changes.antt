@@ -7,14 +7,14 @@ use Rattle.history.specs.declared.record.Record.{Record}
 use Rattle.history.specs.declared.record.Record.TheVariants as is
 use Rattle.history.specs.Spans.{changed_span}
 use Rattle.history.specs.Spans as law
-use Rattle.logical_log.specs.Undoing.{inverse_at, next_at}
-use Rattle.range_locks.specs.declared.span.Mode.TheVariants.{Shared}
-use Rattle.range_locks.specs.declared.span.Span.{Span}
-use Rattle.range_locks.specs.Locks.{LocksView, spans_of, set_spans}
-use Rattle.range_locks.specs.Meant.{meant}
+use Rattle.tc_log.specs.Undoing.{inverse_at, next_at}
+use Rattle.tc_locks.specs.declared.span.Mode.TheVariants.{Shared}
+use Rattle.tc_locks.specs.declared.span.Span.{Span}
+use Rattle.tc_locks.specs.Locks.{LocksView, spans_of, set_spans}
+use Rattle.tc_locks.specs.Meant.{meant}
 use Rattle.tc_core.specs.declared.open_txn.OpenTxn.{OpenTxn}
-use Rattle.restart.specs.declared.loser.Loser.{Loser}
-use Rattle.restart.specs.Losers.{LosersView}
+use Rattle.tc_restart.specs.declared.loser.Loser.{Loser}
+use Rattle.tc_restart.specs.Losers.{LosersView}
 use Rattle.tc_core.specs.declared.phase.Phase.{Phase}
 use Rattle.tc_core.specs.declared.phase.Phase.TheVariants as phase
 use Rattle.tc_core.specs.OpenTxns.{replace, without}

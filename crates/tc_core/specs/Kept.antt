@@ -9,17 +9,17 @@ use Rattle.history.specs.Log.{record_at, answer_of, IsOpen, Requests, IsStepOf}
 use Rattle.history.specs.Legal.{IsLatestOrNone, IsIdle, IsLegal, FitsCheckpoint}
 use Rattle.history.specs.Chains.{undo_from}
 use Rattle.record_key.specs.Order.{HasKeys}
-use Rattle.range_locks.specs.Meant.{range_of}
+use Rattle.tc_locks.specs.Meant.{range_of}
 use Rattle.history.specs.Spans.{Span}
-use Rattle.range_locks.specs.Locks.{LocksView, spans_of}
+use Rattle.tc_locks.specs.Locks.{LocksView, spans_of}
 use Rattle.tc_core.specs.declared.open_txn.OpenTxn.{OpenTxn}
 use Rattle.tc_core.specs.declared.open_txn.Read.{Read}
 use Rattle.tc_core.specs.declared.open_txn.Rollback.{Rollback}
 use Rattle.tc_core.specs.declared.phase.Phase.{Phase}
 use Rattle.tc_core.specs.declared.phase.Phase.TheVariants as phase
 use Rattle.framed_log.specs.Beginning.{beginning}
-use Rattle.logical_log.specs.Checkpointed.{IsCheckpointed}
-use Rattle.restart.specs.Losers.{LosersView, txns, IsLoser, AreLosers}
+use Rattle.tc_log.specs.Checkpointed.{IsCheckpointed}
+use Rattle.tc_restart.specs.Losers.{LosersView, txns, IsLoser, AreLosers}
 use Rattle.tc_core.specs.OpenTxns.{find, AreFalling}
 use Rattle.tc_core.specs.Locking.{AreHeld, HoldOperations}
 use Rattle.tc_core.specs.Changes.{shared}

@@ -9,9 +9,9 @@ use Rattle.record_key.specs.Table.{is_add}
 use Rattle.history.specs.declared.record.Record.{Record}
 use Rattle.history.specs.declared.record.Record.TheVariants as is
 use Rattle.history.specs.Spans.{Mode, Shared, Increment, Exclusive, Span, AnyConflict, changed_span}
-use Rattle.range_locks.specs.declared.span.Mode as code
-use Rattle.range_locks.specs.declared.span.Mode.TheVariants as held
-use Rattle.range_locks.specs.Locks.{LocksView, spans_of, IsGrantable, IsLeastHolder, IsTable}
+use Rattle.tc_locks.specs.declared.span.Mode as code
+use Rattle.tc_locks.specs.declared.span.Mode.TheVariants as held
+use Rattle.tc_locks.specs.Locks.{LocksView, spans_of, IsGrantable, IsLeastHolder, IsTable}
 use Rattle.tc_core.specs.declared.open_txn.OpenTxn.{OpenTxn}
 use Rattle.tc_core.specs.OpenTxns.{find}
 

@@ -6,7 +6,7 @@ use Rattle.history.specs.Legal.{FitsCheckpoint}
 use Rattle.std.specs.Bool.{MatchBool}
 use Rattle.codec.specs.declared.request.Request.{Request}
 use Rattle.codec.specs.declared.request.Request.TheVariants as asks
-use Rattle.logical_log.specs.Low.{IsGreatestLow}
+use Rattle.tc_log.specs.Low.{IsGreatestLow}
 use Rattle.framed_log.specs.Beginning.{beginning}
 use Rattle.tc_core.specs.TcView.{TcView, is_running}
 use Rattle.tc_core.specs.Causes.{running_refusal}

@@ -7,11 +7,11 @@ use Rattle.history.specs.Legal.{IsLegal}
 use Rattle.history.specs.Chains.{undo_from}
 use Rattle.framed_log.specs.Beginning.{beginning}
 use Rattle.stable.specs.Usage.{Usage, called_often}
-use Rattle.logical_log.specs.Opening.{IsLogOf, cut_calls}
-use Rattle.range_locks.specs.Locks.{LocksView, set_spans}
-use Rattle.restart.specs.declared.loser.Loser.{Loser}
-use Rattle.restart.specs.Losers.{LosersView, txns}
-use Rattle.logical_log.specs.Checkpointed.{raised_by}
+use Rattle.tc_log.specs.Opening.{IsLogOf, cut_calls}
+use Rattle.tc_locks.specs.Locks.{LocksView, set_spans}
+use Rattle.tc_restart.specs.declared.loser.Loser.{Loser}
+use Rattle.tc_restart.specs.Losers.{LosersView, txns}
+use Rattle.tc_log.specs.Checkpointed.{raised_by}
 use Rattle.tc_core.specs.Locking.{op_spans, is_listed}
 use Rattle.tc_core.specs.Opening.{opened, IsOpened}
 use Rattle.tc_core.specs.Replies.{is_number}

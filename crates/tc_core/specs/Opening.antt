@@ -7,13 +7,13 @@ use Rattle.history.specs.declared.record.Record.{Record}
 use Rattle.history.specs.declared.record.Record.TheVariants as is
 use Rattle.history.specs.Log.{IsOpen}
 use Rattle.history.specs.Spans.{Span}
-use Rattle.range_locks.specs.Locks.{LocksView, spans_of, IsTable}
+use Rattle.tc_locks.specs.Locks.{LocksView, spans_of, IsTable}
 use Rattle.stable.specs.Usage.{Usage, called, called_often}
-use Rattle.logical_log.specs.Found.{FoundView}
-use Rattle.logical_log.specs.Opening.{IsLogOf, cut_calls, FailsDue}
-use Rattle.restart.specs.Losers.{LosersView}
+use Rattle.tc_log.specs.Found.{FoundView}
+use Rattle.tc_log.specs.Opening.{IsLogOf, cut_calls, FailsDue}
+use Rattle.tc_restart.specs.Losers.{LosersView}
 use Rattle.tc_core.specs.declared.phase.Phase.TheVariants.{Unconnected}
-use Rattle.range_locks.specs.Rebuilt.{Listed}
+use Rattle.tc_locks.specs.Rebuilt.{Listed}
 use Rattle.tc_core.specs.Locking.{op_spans, held_mode}
 use Rattle.tc_core.specs.TcView.{TcView}
 

@@ -11,9 +11,9 @@ use Rattle.tc_core.specs.declared.phase.Phase.TheVariants as phase
 use Rattle.tc_core.specs.declared.told.RecoverStep.{RecoverStep}
 use Rattle.tc_core.specs.declared.told.RecoverStep.TheVariants as step
 use Rattle.history.specs.Log.{Requests}
-use Rattle.logical_log.specs.LogView.{is_spent, last_not_session}
-use Rattle.restart.specs.declared.loser.Loser.{Loser}
-use Rattle.restart.specs.Losers.{IsLeast, MayEnd, LosesNext}
+use Rattle.tc_log.specs.LogView.{is_spent, last_not_session}
+use Rattle.tc_restart.specs.declared.loser.Loser.{Loser}
+use Rattle.tc_restart.specs.Losers.{IsLeast, MayEnd, LosesNext}
 use Rattle.tc_core.specs.TcView.{TcView, is_unconnected}
 use Rattle.tc_core.specs.Refusing.{Refuses}
 use Rattle.tc_core.specs.Changes.{lost_compensated, lost_ended}

@@ -2,8 +2,8 @@
 use Rattle.std.specs.Prelude.{ℕ, ◌||◌, Bool, true, false, List, [], ◌∷◌, Option, Some, None, is_some}
 use Rattle.stable.specs.Usage.{Usage, failed as failed_use}
 use Rattle.history.specs.declared.record.Record.{Record}
-use Rattle.range_locks.specs.Locks.{LocksView}
-use Rattle.restart.specs.Losers.{LosersView, nobody_lost, txns}
+use Rattle.tc_locks.specs.Locks.{LocksView}
+use Rattle.tc_restart.specs.Losers.{LosersView, nobody_lost, txns}
 use Rattle.tc_core.specs.declared.open_txn.OpenTxn.{OpenTxn}
 use Rattle.tc_core.specs.declared.phase.Phase.{Phase}
 use Rattle.tc_core.specs.declared.phase.Phase.TheVariants.{Unconnected, Undoing, Running}

@@ -7,9 +7,9 @@ use crate::change::Change;
 use crate::locking::{mode_for, take, take_key};
 use crate::open_txn::Read;
 use crate::parts::{LAST_NUMBER, Parts};
-use range_locks::{Mode, Span};
 use record_key::{Key, Op, Refusal};
 use stable::LogDevice;
+use tc_locks::{Mode, Span};
 
 impl<D: LogDevice> Parts<D> {
     pub fn act(&mut self, txn: u64, op: &Op) -> Result<u64, Refusal>
@@ -41,7 +41,7 @@ impl<D: LogDevice> Parts<D> {
     }
 
     /// Locks the key and asks for its value.
-    #[tactic(auto, using(range_locks::proofs::KeyEnds::key_range))]
+    #[tactic(auto, using(tc_locks::proofs::KeyEnds::key_range))]
     pub fn read_key(&mut self, txn: u64, key: &Key) -> Result<u64, Refusal>
         requires { IsTc (seen self.old) }
         ensures kept { IsTc (seen self.new) }

@@ -3,7 +3,7 @@ ghost use Rattle.std.specs.Prelude.{◌≡◌};
 ghost use Rattle.tc_core.specs.Changed.{changed};
 
 use crate::open_txn::{OpenTxn, Read, Rollback};
-use compensation::Saves;
+use tc_undo::Saves;
 
 /// What happens to an open transaction.
 #[derive(Debug, Drop)]

@@ -10,10 +10,10 @@ use crate::phase::Phase;
 use crate::told::{Committed, Connecting, Forced};
 use codec::Request;
 use history::Record;
-use range_locks::RangeLocks;
 use record_key::Refusal;
 use stable::LogDevice;
 use std::mem;
+use tc_locks::RangeLocks;
 
 impl<D: LogDevice> Parts<D> {
     /// The queue of those that were committing is handed over, so that telling them takes no memory.

@@ -1,12 +1,12 @@
 //! Locks for the calls of clients.
 ghost use Rattle.std.specs.Prelude.{◌≡◌, ◌∷◌, false, IfErr, OnOk, OnErr};
 ghost use Rattle.record_key.specs.Order.{HasKeys};
-ghost use Rattle.range_locks.specs.Locks.{spans_of, set_spans, IsGrantable, IsTable};
-ghost use Rattle.range_locks.specs.Meant.{meant, range_of};
+ghost use Rattle.tc_locks.specs.Locks.{spans_of, set_spans, IsGrantable, IsTable};
+ghost use Rattle.tc_locks.specs.Meant.{meant, range_of};
 ghost use Rattle.tc_core.specs.Locking.{RefusesLock, held_mode, spent_of};
 
-use range_locks::{Mode, RangeLocks, Span};
 use record_key::{Key, Op, Refusal};
+use tc_locks::{Mode, RangeLocks, Span};
 
 /// Takes the span, which is a range, for the transaction. Refused Busy with the least other holder; where no
 /// number is left for the call NumbersSpent, else NoMemory.
@@ -37,7 +37,7 @@ pub fn take(
 }
 
 /// The same for one key.
-#[tactic(auto, using(range_locks::proofs::KeyEnds::key_range))]
+#[tactic(auto, using(tc_locks::proofs::KeyEnds::key_range))]
 pub fn take_key(
     locks: &mut RangeLocks,
     spent: bool,

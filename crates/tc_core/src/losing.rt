@@ -1,6 +1,6 @@
 //! The undo of losers.
 ghost use Rattle.std.specs.Prelude.{◌≡◌, ℕ, None, Some};
-ghost use Rattle.restart.specs.Losers.{AreLosers, IsLeast, MayEnd, LosesNext};
+ghost use Rattle.tc_restart.specs.Losers.{AreLosers, IsLeast, MayEnd, LosesNext};
 ghost use Rattle.tc_core.specs.declared.phase.Phase.TheVariants as phase;
 ghost use Rattle.tc_core.specs.Changes.{undoing_or_running};
 ghost use Rattle.tc_core.specs.Recovery.{RecoverGives};
@@ -11,11 +11,11 @@ use crate::parts::Parts;
 use crate::phase::Phase;
 use crate::told::RecoverStep;
 use crate::undoing::awaited;
-use compensation::append_undo;
 use history::Record;
 use record_key::Refusal;
-use restart::Loser;
 use stable::LogDevice;
+use tc_restart::Loser;
+use tc_undo::append_undo;
 
 impl<D: LogDevice> Parts<D> {
     /// The compensation that awaits its answer, first or again.

@@ -1,6 +1,6 @@
 //! An open transaction.
-use compensation::Saves;
-use range_locks::Span;
+use tc_locks::Span;
+use tc_undo::Saves;
 
 /// A read that waits for its reply.
 #[derive(Debug, Clone, PartialEq, Eq, Drop)]

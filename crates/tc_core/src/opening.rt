@@ -6,12 +6,12 @@ ghost use Rattle.stable.specs.Crash.{BeginsWith};
 ghost use Rattle.history.specs.declared.record.Record.{Record};
 ghost use Rattle.history.specs.Log.{record_at};
 ghost use Rattle.framed_log.specs.Beginning.{beginning};
-ghost use Rattle.logical_log.specs.Opening.{IsLogOf};
-ghost use Rattle.logical_log.specs.Replay.{KeptOf, IsAnalysis};
-ghost use Rattle.logical_log.specs.Spelled.{spelled, AreRecords};
-ghost use Rattle.range_locks.specs.Rebuilt.{listed_spans};
-ghost use Rattle.restart.specs.Losers.{AreLosers};
-ghost use Rattle.restart.specs.Plan.{IsRedoStart};
+ghost use Rattle.tc_log.specs.Opening.{IsLogOf};
+ghost use Rattle.tc_log.specs.Replay.{KeptOf, IsAnalysis};
+ghost use Rattle.tc_log.specs.Spelled.{spelled, AreRecords};
+ghost use Rattle.tc_locks.specs.Rebuilt.{listed_spans};
+ghost use Rattle.tc_restart.specs.Losers.{AreLosers};
+ghost use Rattle.tc_restart.specs.Plan.{IsRedoStart};
 ghost use Rattle.tc_core.specs.Locking.{op_spans};
 ghost use Rattle.tc_core.specs.Opening.{key_noted, spans_if, HoldsOpen, IsMadeOf, RefusesMaking, opened};
 ghost use Rattle.tc_core.specs.Kept.{IsTc};
@@ -22,13 +22,13 @@ use crate::open_txns::OpenTxns;
 use crate::parts::Parts;
 use crate::phase::Phase;
 use history::Record;
-use logical_log::{Found, Frames, Log, Refused};
-use range_locks::{Mode, RangeLocks};
 use record_key::{Key, Refusal};
-use restart::{Work, find_work};
 use stable::LogDevice;
 use std::alloc::{AllocError, Global};
 use std::collections::BTreeMap;
+use tc_locks::{Mode, RangeLocks};
+use tc_log::{Found, Frames, Log, Refused};
+use tc_restart::{Work, find_work};
 
 impl<D: LogDevice> Parts<D> {
     pub fn over(alloc: Global, found: Found<D>) -> Result<Parts<D>, Refused<D>>

@@ -1,7 +1,7 @@
 //! The parts of the transaction component.
 ghost use Rattle.std.specs.Prelude.{◌≡◌, ◌≤◌, [], true, Some, None, IfOk, IfErr, OnOk};
 ghost use Rattle.stable.specs.Usage.{failing_in};
-ghost use Rattle.logical_log.specs.LogView.{spent_refusal};
+ghost use Rattle.tc_log.specs.LogView.{spent_refusal};
 ghost use Rattle.tc_core.specs.TcView.{fresh_tc, used_so, is_running, is_serving};
 ghost use Rattle.tc_core.specs.Causes.{running_refusal, serving_refusal, open_refusal, answered_refusal, idle_refusal};
 ghost use Rattle.tc_core.specs.Finds.{FindsOpen, FindsAnswered, FindsIdle};
@@ -11,12 +11,12 @@ ghost use Rattle.tc_core.specs.Seen.{seen};
 use crate::open_txn::OpenTxn;
 use crate::open_txns::OpenTxns;
 use crate::phase::Phase;
-use logical_log::Log;
-use range_locks::RangeLocks;
 use record_key::Refusal;
-use restart::Losers;
 use stable::{CrashLog, LogDevice};
 use std::alloc::Global;
+use tc_locks::RangeLocks;
+use tc_log::Log;
+use tc_restart::Losers;
 
 /// The greatest number that a record or a read may have.
 pub const LAST_NUMBER: u64 = 281_474_976_710_655;

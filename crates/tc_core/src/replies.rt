@@ -11,8 +11,8 @@ use crate::phase::Phase;
 use crate::told::Heard;
 use codec::GivenAnswer;
 use history::Record;
-use range_locks::Span;
 use record_key::Answer;
+use tc_locks::Span;
 
 /// Whether the answer of this number is taken: clients are served, or redo waits for it.
 pub fn takes(session: u64, phase: Phase, number: u64) -> bool

@@ -7,9 +7,9 @@ ghost use Rattle.tc_core.specs.Seen.{seen};
 use crate::open_txn::Read;
 use crate::parts::Parts;
 use codec::Request;
-use range_locks::Span;
 use record_key::Key;
 use stable::LogDevice;
+use tc_locks::Span;
 
 impl<D: LogDevice> Parts<D> {
     /// What the record of this number asks for, with how much of the log is stable.

@@ -9,9 +9,9 @@ ghost use Rattle.tc_core.specs.Seen.{seen};
 use crate::parts::Parts;
 use crate::requests::read_request;
 use codec::Request;
-use range_locks::Span;
 use record_key::{Key, Refusal};
 use stable::LogDevice;
+use tc_locks::Span;
 
 impl<D: LogDevice> Parts<D> {
     pub fn resend(&self, txn: u64) -> Result<Request, Refusal>

@@ -1,6 +1,6 @@
 //! What recovery sends in a session.
 ghost use Rattle.std.specs.Prelude.{◌≡◌, ℕ, false, IfSome, IfNone};
-ghost use Rattle.restart.specs.Redo.{FindsRequest};
+ghost use Rattle.tc_restart.specs.Redo.{FindsRequest};
 ghost use Rattle.tc_core.specs.Recovery.{RecoverGives, Redoes, SendsOp, redoing};
 ghost use Rattle.tc_core.specs.Redoing.{IsRedoing};
 ghost use Rattle.tc_core.specs.Kept.{IsTc};
@@ -12,8 +12,8 @@ use crate::phase::Phase;
 use crate::told::RecoverStep;
 use codec::Request;
 use record_key::Refusal;
-use restart::redo_next;
 use stable::LogDevice;
+use tc_restart::redo_next;
 
 impl<D: LogDevice> Parts<D> {
     pub fn recover_step(&mut self) -> Result<RecoverStep, Refusal>

@@ -5,9 +5,9 @@ ghost use Rattle.stable.specs.Crash.{BeginsWith};
 ghost use Rattle.stable.specs.Usage.{IsToCome, failing_in};
 ghost use Rattle.history.specs.Log.{record_at, request_in};
 ghost use Rattle.framed_log.specs.Beginning.{beginning};
-ghost use Rattle.logical_log.specs.Opening.{RefusesOpen, UsedToOpen};
-ghost use Rattle.logical_log.specs.Spelled.{spelled, AreRecords, IsAskedBy};
-ghost use Rattle.logical_log.specs.LogView.{spent_refusal};
+ghost use Rattle.tc_log.specs.Opening.{RefusesOpen, UsedToOpen};
+ghost use Rattle.tc_log.specs.Spelled.{spelled, AreRecords, IsAskedBy};
+ghost use Rattle.tc_log.specs.LogView.{spent_refusal};
 ghost use Rattle.tc_core.specs.TcView.{TcView, fresh_tc, used_so};
 ghost use Rattle.tc_core.specs.OpenTxns.{find, oldest, wants};
 ghost use Rattle.tc_core.specs.Calls.{ReconnectGives, BeginGives, ActGives, ReadGives, SaveGives, BackGives, RollbackGives, CommitGives, UndoGives, ForceGives, ResendGives, IsOpRequest, IsReadRequest, IsAwaitedOp, TellStableGives};
@@ -34,12 +34,12 @@ use crate::requests::copied;
 use crate::told::{Connecting, Forced, Heard, RecoverStep, Told, UndoStep};
 use codec::{GivenAnswer, Reply, Request};
 use history::Record;
-use logical_log::{Found, Refused};
-use range_locks::Span;
 use record_key::{Key, Op, Refusal};
 use stable::{CrashLog, LogDevice};
 use std::alloc::Global;
 use std::marker::Model;
+use tc_locks::Span;
+use tc_log::{Found, Refused};
 
 /// A log, a session, at most 64 open transactions with their locks and reads, and those that are committing.
 #[derive(Drop)]

@@ -1,6 +1,6 @@
 //! How transactions begin, are saved, rolled back and committed.
 ghost use Rattle.std.specs.Prelude.{◌≡◌, ◌<◌, None, Some, OnOk, IfErr, length};
-ghost use Rattle.logical_log.specs.LogView.{spent_refusal};
+ghost use Rattle.tc_log.specs.LogView.{spent_refusal};
 ghost use Rattle.tc_core.specs.Causes.{begin_refusal};
 ghost use Rattle.tc_core.specs.Calls.{BeginGives, SaveGives, BackGives, RollbackGives, CommitGives};
 ghost use Rattle.tc_core.specs.Kept.{IsTc};

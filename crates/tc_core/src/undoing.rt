@@ -1,6 +1,6 @@
 //! The steps of a rollback.
 ghost use Rattle.std.specs.Prelude.{◌≡◌, ◌≤◌, Some, None, if◌then◌else◌};
-ghost use Rattle.compensation.specs.NextUndo.{MayUndo, IsUndone};
+ghost use Rattle.tc_undo.specs.NextUndo.{MayUndo, IsUndone};
 ghost use Rattle.tc_core.specs.Calls.{UndoGives};
 ghost use Rattle.tc_core.specs.Undoing.{MayStep};
 ghost use Rattle.tc_core.specs.Kept.{IsTc};
@@ -10,10 +10,10 @@ use crate::change::Change;
 use crate::open_txn::Rollback;
 use crate::parts::Parts;
 use crate::told::UndoStep;
-use compensation::{Chain, Compensated, append_undo};
 use history::Record;
 use record_key::Refusal;
 use stable::LogDevice;
+use tc_undo::{Chain, Compensated, append_undo};
 
 impl<D: LogDevice> Parts<D> {
     pub fn undo_step(&mut self, txn: u64) -> Result<UndoStep, Refusal>

@@ -9,9 +9,9 @@ use crate::stored::{
 use crate::terminals::Terminals;
 use file_devices::{FileLog, NoPages, StoreError, count_blocks, read_store};
 use history::Record;
-use node_shell::{DONE, FAILED};
 use node_store::{Cause, renew};
 use record_key::Refusal;
+use shell_scripts::{DONE, FAILED};
 use std::fs::{File, Files};
 use std::time::Clock;
 

@@ -2,9 +2,9 @@
 use crate::refusals::Counting;
 use crate::script::{Manner, UNCONNECTED, tell_refused, told};
 use crate::stored::finish;
-use node_shell::{DONE, FAILED, FAULT, Shell, Stopping, is_fault, refusal_of, refuse, run_line};
 use record_key::Refusal;
-use script_faults::reason_of;
+use shell_faults::reason_of;
+use shell_scripts::{DONE, FAILED, FAULT, Shell, Stopping, is_fault, refusal_of, refuse, run_line};
 use stable::{CrashLog, CrashPages};
 use std::io;
 use std::io::{BufRead, LineWriter, Write};

@@ -1,13 +1,13 @@
 //! The records of a store as a text, which `load` reads again.
 ghost use Rattle.std.specs.Prelude.{◌≡◌, ◌<◌, true, length};
-ghost use Rattle.node_shell.specs.View.{leaves_shown};
+ghost use Rattle.shell_scripts.specs.View.{leaves_shown};
 
 use crate::progress::Progress;
 use crate::stored::{Node, finish, node_to_read};
 use crate::terminals::Terminals;
 use codec::LentRows;
-use node_shell::{DONE, FAILED, Stopping, print_row, refuse};
 use record_key::Refusal;
+use shell_scripts::{DONE, FAILED, Stopping, print_row, refuse};
 use std::fs::{File, Files};
 use std::io;
 use std::io::{BufWriter, Write};

@@ -3,10 +3,10 @@ ghost use Rattle.std.specs.Prelude.{◌≡◌, []};
 
 use crate::stored::{print_failure, print_faulty, print_unopened, print_unread, print_wanting};
 use file_devices::{FileLog, NoPages, open_pages, open_store};
-use halves_apart::{Dc, Player, Served, Stop, Wire, open_data, open_player, serve};
-use node_shell::{DONE, FAILED, FAULT, first_fault, print_refusal, print_table};
 use node_store::Cause;
 use record_key::Refusal;
+use shell_halves::{Dc, Player, Served, Stop, Wire, open_data, open_player, serve};
+use shell_scripts::{DONE, FAILED, FAULT, first_fault, print_refusal, print_table};
 use stable::PageDevice;
 use std::fs::{File, Files};
 use std::io::{Read, Write};

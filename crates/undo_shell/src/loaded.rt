@@ -8,12 +8,12 @@ use crate::stored::{
 };
 use crate::terminals::Terminals;
 use file_devices::{FileLog, StoreError};
-use node_shell::{DONE, FAILED, FAULT, cut_at, number_of, refuse, written};
+use node_world::{Event, Out, settle};
 use record_key::{Key, Op, Refusal, Value};
+use shell_scripts::{DONE, FAILED, FAULT, cut_at, number_of, refuse, written};
 use std::fs::{File, Files};
 use std::io;
 use std::time::Clock;
-use world::{Event, Out, settle};
 
 /// The leaves are split once so many records are put.
 const SPLIT_EACH: u64 = 512;

@@ -1,12 +1,12 @@
 //! How large the records of a store are.
 ghost use Rattle.std.specs.Prelude.{◌≡◌, ◌<◌, true, length};
-ghost use Rattle.node_shell.specs.View.{leaves_shown};
+ghost use Rattle.shell_scripts.specs.View.{leaves_shown};
 
 use crate::stored::{Node, node_to_read};
 use crate::terminals::Terminals;
 use codec::LentRows;
-use node_shell::{DONE, FAILED, refuse};
 use record_key::Refusal;
+use shell_scripts::{DONE, FAILED, refuse};
 use std::fs::{File, Files};
 use std::io;
 use std::time::Clock;

@@ -2,10 +2,10 @@
 use crate::progress::Progress;
 use crate::stored::Node;
 use crate::terminals::Terminals;
+use node_world::{Event, bring_up, settle};
 use record_key::Refusal;
 use std::alloc::Global;
 use std::time::Clock;
-use world::{Event, bring_up, settle};
 
 /// Brings a node that was opened to rest, and tells how far it is. What that tells clients is of none that is there.
 pub fn bring_to_rest<R>(rt: &R, terminals: Terminals, node: &mut Node) -> Result<(), Refusal>

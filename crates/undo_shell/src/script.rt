@@ -1,8 +1,8 @@
 //! A script from standard input, and what is said of its run on standard error.
 use crate::refusals::Counting;
-use node_shell::{DONE, FAILED, FAULT, refusal_of};
 use record_key::Refusal;
-use script_faults::{Rebound, first_rebound, reason};
+use shell_faults::{Rebound, first_rebound, reason};
+use shell_scripts::{DONE, FAILED, FAULT, refusal_of};
 use std::io::Read;
 
 /// The exit status of a strict run that came to its end, where a line was refused.

@@ -11,15 +11,15 @@ use file_devices::{
     FileLog, FirstFailure, NoPages, StoreError, StoreFile, Torn, Tried, first_len, open_store,
     place_in_file, read_store, reopen_store, replace_log,
 };
-use node_shell::{DONE, FAILED, FAULT, Shell, Stopping, refuse, run_on};
 use node_store::{Cause, open, renew};
+use node_world::World;
 use record_key::Refusal;
+use shell_scripts::{DONE, FAILED, FAULT, Shell, Stopping, refuse, run_on};
 use stable::LogDevice;
 use std::fs::{File, Files};
 use std::io;
 use std::io::{LineWriter, Write};
 use std::time::Clock;
-use world::World;
 
 pub type Node = World<FileLog, NoPages>;
 

@@ -2,13 +2,13 @@
 -- bytes that are no log's.
 use Rattle.std.proofs.Common.{◌≡◌, ℕ, Bool, true, false, List, [], ◌∷◌, Option, Some, None, IsTrue, refl, sym, ap, ◌∙◌, subst, inl, inr, true≢false}
 use Rattle.std.specs.Prelude.{◌||◌, ◌&&◌, ◌==◌, not, nat_le, nat_lt, is_some, length, if◌then◌else◌}
-use Rattle.range_locks.specs.Meant.{range_of}
+use Rattle.tc_locks.specs.Meant.{range_of}
 use Rattle.record_key.specs.declared.refusal.Refusal.{Refusal}
 use Rattle.record_key.specs.declared.refusal.Refusal.TheVariants.{NotConnected, Redoing, NotOpen, RollingBack, Unanswered, Full, BadSavepoint, BadRange, NumbersSpent, Unsent, Stale, NotNow, Device, BadBytes}
 use Rattle.record_key.specs.FirstCause.{first_of, or_else, RefusesAs, MayRefuse}
 use Rattle.stable.specs.Usage.{Usage, is_due, is_next, called, called_often}
-use Rattle.logical_log.specs.LogView.{is_spent, spent_refusal}
-use Rattle.range_locks.specs.declared.span.Span.{Span}
+use Rattle.tc_log.specs.LogView.{is_spent, spent_refusal}
+use Rattle.tc_locks.specs.declared.span.Span.{Span}
 use Rattle.tc_core.specs.TcView.{TcView, is_unconnected, is_running, is_serving, is_rolling, is_waiting}
 use Rattle.tc_core.specs.OpenTxns.{find}
 use Rattle.tc_core.specs.Causes.{is_full, saves_of, has_savepoint, undo_logs, running_refusal, serving_refusal, open_refusal, idle_refusal, begin_refusal, commit_refusal, save_refusal, back_refusal, read_refusal, reads_spent, answered_refusal, undo_refusal, resend_refusal}
@@ -18,18 +18,18 @@ use Rattle.codec.specs.declared.reply.Reply.{Reply}
 use Rattle.codec.specs.Replies.{session_of}
 use Rattle.record_key.specs.Order.{ends_above}
 use Rattle.record_key.specs.Table.{Bytes}
-use Rattle.page.specs.Tops.{is_within}
-use Rattle.btree.specs.Leaves.{place_at}
-use Rattle.btree.specs.Parting.{may_split_at, may_merge_at}
-use Rattle.recovery_laws.specs.Shape.{named}
+use Rattle.dc_leaf.specs.Tops.{is_within}
+use Rattle.dc_tree.specs.Leaves.{place_at}
+use Rattle.dc_tree.specs.Parting.{may_split_at, may_merge_at}
+use Rattle.dc_recovery.specs.Shape.{named}
 use Rattle.codec.specs.declared.request.Request.{Request}
 use Rattle.codec.specs.declared.request.Request.TheVariants as asks
 use Rattle.dc_core.specs.DcView.{DcView}
 use Rattle.dc_core.specs.Serves.{runs, session_refusal, after_redo_refusal, serve_refusal}
-use Rattle.dc_core.specs.system_txn.specs.SystemView.{SystemView}
-use Rattle.dc_core.specs.system_txn.specs.Changes.{leaf_in}
-use Rattle.dc_core.specs.system_txn.specs.Uses.{FailsWhenDue}
-use Rattle.dc_core.specs.system_txn.specs.Gives.{is_spent as is_full_log, pair_within, append_refusal, make_refusal, split_refusal, merge_refusal}
+use Rattle.dc_core.specs.dc_store.specs.SystemView.{SystemView}
+use Rattle.dc_core.specs.dc_store.specs.Changes.{leaf_in}
+use Rattle.dc_core.specs.dc_store.specs.Uses.{FailsWhenDue}
+use Rattle.dc_core.specs.dc_store.specs.Gives.{is_spent as is_full_log, pair_within, append_refusal, make_refusal, split_refusal, merge_refusal}
 use Rattle.node_laws.specs.Node.{LacksRoom}
 use Rattle.node_laws.specs.Sound.{IsSound}
 

@@ -7,20 +7,20 @@ use Rattle.record_key.specs.declared.refusal.Refusal.{Refusal}
 use Rattle.record_key.specs.declared.refusal.Refusal.TheVariants.{Device, NoMemory, NotNow}
 use Rattle.stable.specs.Usage.{Usage, called_often}
 use Rattle.stable.specs.PagesState.{Pages}
-use Rattle.page.specs.Leaf.{LeafView}
-use Rattle.page.specs.Tops.{is_within, all_within}
-use Rattle.btree.specs.Leaves.{leaf_at, place_at}
+use Rattle.dc_leaf.specs.Leaf.{LeafView}
+use Rattle.dc_leaf.specs.Tops.{is_within, all_within}
+use Rattle.dc_tree.specs.Leaves.{leaf_at, place_at}
 use Rattle.codec.specs.declared.request.Request.{Request}
 use Rattle.codec.specs.declared.request.Request.TheVariants as asks
 use Rattle.codec.specs.declared.reply.Reply.{Reply}
-use Rattle.dc_core.specs.system_txn.specs.SystemView.{SystemView}
-use Rattle.dc_core.specs.system_txn.specs.Uses.{StopsWithin, StopsOpening, page_calls}
+use Rattle.dc_core.specs.dc_store.specs.SystemView.{SystemView}
+use Rattle.dc_core.specs.dc_store.specs.Uses.{StopsWithin, StopsOpening, page_calls}
 use Rattle.framed_log.specs.Refused.{refused_use}
-use Rattle.dc_core.specs.system_txn.specs.Changes.{split_to, merged_to, covered, written_to, written_all, lowered, taken_back, accepted, forced}
-use Rattle.dc_core.specs.system_txn.specs.Gives.{Splits, Merges, StopsAppend, SplitGives, MergeGives, TendGives, FlushGives, StopsWriting, CheckpointGives, StopsCheckpoint, AcceptGives, Tending, SplitsAt, MergesAt, Rests, tending, TendsTo, StopsTending, FailsWriting, FailsAmong, append_refusal, make_refusal}
-use Rattle.dc_core.specs.system_txn.specs.declared.tended.Neighbours.{Neighbours}
-use Rattle.dc_core.specs.system_txn.specs.declared.tended.Tended.{Tended}
-use Rattle.dc_core.specs.system_txn.specs.declared.tended.Tended.TheVariants as tended
+use Rattle.dc_core.specs.dc_store.specs.Changes.{split_to, merged_to, covered, written_to, written_all, lowered, taken_back, accepted, forced}
+use Rattle.dc_core.specs.dc_store.specs.Gives.{Splits, Merges, StopsAppend, SplitGives, MergeGives, TendGives, FlushGives, StopsWriting, CheckpointGives, StopsCheckpoint, AcceptGives, Tending, SplitsAt, MergesAt, Rests, tending, TendsTo, StopsTending, FailsWriting, FailsAmong, append_refusal, make_refusal}
+use Rattle.dc_core.specs.dc_store.specs.declared.tended.Neighbours.{Neighbours}
+use Rattle.dc_core.specs.dc_store.specs.declared.tended.Tended.{Tended}
+use Rattle.dc_core.specs.dc_store.specs.declared.tended.Tended.TheVariants as tended
 use Rattle.dc_core.specs.DcView.{DcView, captures_at}
 use Rattle.dc_core.specs.Serves.{runs, connected, knows, performs, Serves, Stops, StopsUnless, ServeGives, serve_refusal}
 use Rattle.dc_core.specs.Tends.{may_merge, IsNotNow, SplitsTo, MergesTo, TendsTo as TendsDcTo, FlushesTo}

@@ -7,15 +7,15 @@ use Rattle.record_key.specs.Table.{Bytes}
 use Rattle.record_key.specs.declared.refusal.Refusal.{Refusal}
 use Rattle.record_key.specs.declared.refusal.Refusal.TheVariants.{NoMemory, NotConnected, NotNow, Device, BadBytes}
 use Rattle.record_key.specs.FirstCause.{MayRefuse}
-use Rattle.range_locks.specs.declared.span.Span.TheVariants.{Key, Range}
-use Rattle.range_locks.specs.Meant.{range_of}
+use Rattle.tc_locks.specs.declared.span.Span.TheVariants.{Key, Range}
+use Rattle.tc_locks.specs.Meant.{range_of}
 use Rattle.history.specs.Spans.{Span as Keys}
-use Rattle.logical_log.specs.LogView.{spent_refusal}
+use Rattle.tc_log.specs.LogView.{spent_refusal}
 use Rattle.codec.specs.declared.request.Request.{Request}
 use Rattle.codec.specs.declared.request.Request.TheVariants as asks
-use Rattle.page.specs.Leaf.{LeafView}
-use Rattle.page.specs.Tops.{is_within, all_within}
-use Rattle.btree.specs.Leaves.{leaf_at}
+use Rattle.dc_leaf.specs.Leaf.{LeafView}
+use Rattle.dc_leaf.specs.Tops.{is_within, all_within}
+use Rattle.dc_tree.specs.Leaves.{leaf_at}
 use Rattle.tc_core.specs.TcView.{TcView}
 use Rattle.tc_core.specs.OpenTxns.{find}
 use Rattle.tc_core.specs.Refusing.{Refuses}
@@ -27,8 +27,8 @@ use Rattle.tc_core.specs.Replies.{reply_refusal, logs}
 use Rattle.dc_core.specs.DcView.{DcView}
 use Rattle.dc_core.specs.Serves.{Stops, StopsUnless, serve_refusal}
 use Rattle.dc_core.specs.Tends.{may_merge, MergesTo}
-use Rattle.dc_core.specs.system_txn.specs.SystemView.{SystemView}
-use Rattle.dc_core.specs.system_txn.specs.Gives.{AcceptGives, CheckpointGives, FlushGives, StopsAppend, StopsCheckpoint, StopsTending, StopsWriting, Tending, SplitsAt, MergesAt, Rests, append_refusal, make_refusal, tending}
+use Rattle.dc_core.specs.dc_store.specs.SystemView.{SystemView}
+use Rattle.dc_core.specs.dc_store.specs.Gives.{AcceptGives, CheckpointGives, FlushGives, StopsAppend, StopsCheckpoint, StopsTending, StopsWriting, Tending, SplitsAt, MergesAt, Rests, append_refusal, make_refusal, tending}
 use Rattle.node_laws.specs.declared.event.Event.{Event}
 use Rattle.node_laws.specs.declared.event.Event.TheVariants as event
 use Rattle.node_laws.specs.declared.event.Out.{Out}

@@ -7,10 +7,10 @@ use Rattle.record_key.specs.Table.{Bytes}
 use Rattle.record_key.specs.Order.{ends_above}
 use Rattle.record_key.specs.declared.refusal.Refusal.{Refusal}
 use Rattle.record_key.specs.declared.refusal.Refusal.TheVariants.{NoMemory, Device, NotConnected, BadRange}
-use Rattle.range_locks.specs.declared.span.Span.{Span}
-use Rattle.range_locks.specs.declared.span.Span.TheVariants.{Key, Range}
-use Rattle.logical_log.specs.LogView.{spent_refusal}
-use Rattle.range_locks.specs.Meant.{range_of}
+use Rattle.tc_locks.specs.declared.span.Span.{Span}
+use Rattle.tc_locks.specs.declared.span.Span.TheVariants.{Key, Range}
+use Rattle.tc_log.specs.LogView.{spent_refusal}
+use Rattle.tc_locks.specs.Meant.{range_of}
 use Rattle.tc_core.specs.declared.told.Told.{Told}
 use Rattle.tc_core.specs.declared.told.Told.TheVariants as told
 use Rattle.tc_core.specs.declared.told.UndoStep.{UndoStep}
@@ -26,7 +26,7 @@ use Rattle.tc_core.specs.Replies.{reply_refusal, logs, on_reply}
 use Rattle.history.specs.Spans.{changed_span}
 use Rattle.dc_core.specs.DcView.{DcView}
 use Rattle.dc_core.specs.Serves.{serve_refusal}
-use Rattle.dc_core.specs.system_txn.specs.declared.tended.Tended.TheVariants as tended
+use Rattle.dc_core.specs.dc_store.specs.declared.tended.Tended.TheVariants as tended
 use Rattle.node_laws.specs.declared.event.Event.{Event}
 use Rattle.node_laws.specs.declared.event.Event.TheVariants as event
 use Rattle.node_laws.specs.declared.event.Out.{Out}

@@ -6,8 +6,8 @@ use Rattle.record_key.specs.Table.{Bytes}
 use Rattle.record_key.specs.declared.refusal.Refusal.{Refusal}
 use Rattle.record_key.specs.declared.refusal.Refusal.TheVariants.{Device}
 use Rattle.stable.specs.Usage.{Usage, called}
-use Rattle.logical_log.specs.Opening.{UsedToOpen}
-use Rattle.logical_log.specs.LogView.{spent_refusal}
+use Rattle.tc_log.specs.Opening.{UsedToOpen}
+use Rattle.tc_log.specs.LogView.{spent_refusal}
 use Rattle.history.specs.Spans.{Span as Keys}
 use Rattle.codec.specs.declared.request.Request.{Request}
 use Rattle.codec.specs.declared.reply.Reply.{Reply}

@@ -5,7 +5,7 @@ use Rattle.std.proofs.lemmas.List.{length-drop, drop-drop}
 use Rattle.history.specs.declared.record.Record.{Record}
 use Rattle.history.specs.Legal.{FitsCheckpoint, AreAnswered}
 use Rattle.framed_log.specs.Beginning.{beginning}
-use Rattle.logical_log.proofs.Answered.{answered_whole}
+use Rattle.tc_log.proofs.Answered.{answered_whole}
 use Rattle.node_laws.specs.Kept.{IsAnsweredBy}
 
 -- they are answered

@@ -4,11 +4,11 @@ use Rattle.std.specs.Prelude.{nat_le}
 use Rattle.std.proofs.lemmas.Bool.Decides.{nat_tests}
 use Rattle.record_key.specs.Table.{Bytes}
 use Rattle.history.specs.Honest.{IsHonestAt}
-use Rattle.btree.specs.Leaves.{leaf_at}
-use Rattle.btree.proofs.AtKey.{all_at, within_at}
-use Rattle.page.specs.Honest.{IsHonestLeaf}
-use Rattle.recovery_laws.specs.Ready.{IsLow}
-use Rattle.dc_core.specs.system_txn.specs.Checked.{IsChecked}
+use Rattle.dc_tree.specs.Leaves.{leaf_at}
+use Rattle.dc_tree.proofs.AtKey.{all_at, within_at}
+use Rattle.dc_leaf.specs.Honest.{IsHonestLeaf}
+use Rattle.dc_recovery.specs.Ready.{IsLow}
+use Rattle.dc_core.specs.dc_store.specs.Checked.{IsChecked}
 use Rattle.dc_core.specs.DcView.{leaves, captures_at, value_at}
 use Rattle.node_laws.specs.Node.{NodeView}
 use Rattle.dc_core.specs.Tends.{may_merge}

@@ -9,14 +9,14 @@ use Rattle.record_key.specs.declared.refusal.Refusal.TheVariants.{Full, BadRange
 use Rattle.record_key.specs.FirstCause.{first_of}
 use Rattle.record_key.specs.Table.{Bytes}
 use Rattle.history.specs.declared.record.Record.TheVariants as is
-use Rattle.range_locks.specs.Meant.{range_of}
+use Rattle.tc_locks.specs.Meant.{range_of}
 use Rattle.history.specs.Spans.{changed_span}
 use Rattle.record_key.specs.Order.{ends_above, HasKeys}
 use Rattle.history.specs.Legal.{Fits, IsLatestOrNone, Stands, Inverts}
 use Rattle.history.specs.Log.{record_at, answer_of, IsOpBy}
-use Rattle.range_locks.specs.declared.span.Span.{Span}
-use Rattle.range_locks.specs.Locks.{IsGrantable}
-use Rattle.logical_log.specs.LogView.{is_spent, spent_refusal}
+use Rattle.tc_locks.specs.declared.span.Span.{Span}
+use Rattle.tc_locks.specs.Locks.{IsGrantable}
+use Rattle.tc_log.specs.LogView.{is_spent, spent_refusal}
 use Rattle.codec.specs.declared.reply.Reply.{Reply}
 use Rattle.codec.specs.declared.reply.Reply.TheVariants as says
 use Rattle.tc_core.specs.declared.open_txn.OpenTxn.{OpenTxn}
@@ -35,7 +35,7 @@ use Rattle.stable.specs.Usage.{failed}
 use Rattle.tc_core.specs.TcView.{TcView}
 use Rattle.tc_core.specs.Refusing.{Refuses}
 use Rattle.tc_core.specs.Causes.{begin_refusal, idle_refusal, is_full, answered_refusal, undo_refusal, undo_logs, logs_next, saves_of, has_savepoint, reads_spent, RefusesTaking, commit_refusal, serving_refusal}
-use Rattle.logical_log.specs.Undoing.{inverse_at, next_at}
+use Rattle.tc_log.specs.Undoing.{inverse_at, next_at}
 use Rattle.tc_core.specs.Changes.{shared, logged_session, committed, answered, was_told, checkpointed}
 use Rattle.tc_core.specs.Calls.{ReconnectGives, BeginGives, ActGives, ReadGives, SaveGives, BackGives, RollbackGives, CommitGives, UndoGives, ForceGives, Undoes, IsAt}
 use Rattle.tc_core.specs.Replies.{ReplyGives, Outcome, on_reply, on_answered, on_awaited, on_lost, lacks, passed, on_connected, on_redo_ended, on_row, on_rows, on_checkpointed, is_number, awaiting, reader, takes, is_key, is_range, span_read, is_logged, is_stale, answered_refusal_of, reply_refusal}
@@ -52,7 +52,7 @@ use Rattle.tc_core.proofs.KeepsLost.{not_lacking, keeps_lost_answer, keeps_conne
 use Rattle.tc_core.proofs.KeepsLow.{keeps_announced, keeps_asked, keeps_checkpointed}
 use Rattle.log_laws.proofs.Undo.{earlier_found}
 use Rattle.log_laws.proofs.Records.{op_step, op_request}
-use Rattle.compensation.specs.NextUndo.{IsUndone}
+use Rattle.tc_undo.specs.NextUndo.{IsUndone}
 use Rattle.std.proofs.Math.Bool.{or-true}
 use Rattle.codec.specs.declared.request.Request.{Request}
 use Rattle.tc_core.proofs.KeepsUndo.{undo_found}

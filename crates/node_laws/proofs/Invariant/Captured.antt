@@ -8,13 +8,13 @@ use Rattle.record_key.specs.Entries.{top_in}
 use Rattle.record_key.proofs.Lists.{all_from}
 use Rattle.history.specs.declared.record.Record.{Record}
 use Rattle.log_laws.proofs.LegalLogs.{request_number}
-use Rattle.ab_lsn.specs.AbLsn.{captures, stands_in}
-use Rattle.page.specs.Leaf.{LeafView}
-use Rattle.page.specs.Honest.{IsSavedRight, IsHonestLeaf}
-use Rattle.page.specs.Tops.{is_within}
-use Rattle.page.proofs.UpTo.{AreUpTo, none_above}
-use Rattle.recovery_laws.specs.Ready.{IsHonestTo}
-use Rattle.dc_core.specs.system_txn.proofs.Replacing.{up_to_top}
+use Rattle.dc_ab_lsn.specs.AbLsn.{captures, stands_in}
+use Rattle.dc_leaf.specs.Leaf.{LeafView}
+use Rattle.dc_leaf.specs.Honest.{IsSavedRight, IsHonestLeaf}
+use Rattle.dc_leaf.specs.Tops.{is_within}
+use Rattle.dc_leaf.proofs.UpTo.{AreUpTo, none_above}
+use Rattle.dc_recovery.specs.Ready.{IsHonestTo}
+use Rattle.dc_core.specs.dc_store.proofs.Replacing.{up_to_top}
 use Rattle.node_laws.specs.Kept.{IsLowAnswered}
 use Rattle.node_laws.specs.Source.{Source}
 use Rattle.node_laws.proofs.Invariant.Announced.{most_sure}

@@ -8,13 +8,13 @@ use Rattle.record_key.specs.Table.{Bytes, key_of}
 use Rattle.record_key.proofs.Lists.{all_from}
 use Rattle.history.specs.Log.{Requests}
 use Rattle.framed_log.specs.Beginning.{beginning}
-use Rattle.logical_log.specs.LogView.{last_not_session}
+use Rattle.tc_log.specs.LogView.{last_not_session}
 use Rattle.codec.specs.declared.request.Request.{Request}
 use Rattle.codec.specs.declared.request.Request.TheVariants as asks
 use Rattle.codec.specs.declared.reply.Reply.{Reply}
 use Rattle.codec.specs.declared.reply.Reply.TheVariants as says
-use Rattle.dc_core.specs.system_txn.specs.Kept.{IsRecoverable}
-use Rattle.dc_core.specs.system_txn.specs.Checked.{Checks}
+use Rattle.dc_core.specs.dc_store.specs.Kept.{IsRecoverable}
+use Rattle.dc_core.specs.dc_store.specs.Checked.{Checks}
 use Rattle.dc_core.specs.declared.performance.Performance.{Performance}
 use Rattle.dc_core.specs.DcView.{DcView, captures_at}
 use Rattle.dc_core.specs.Serves.{runs}

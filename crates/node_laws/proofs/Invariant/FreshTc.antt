@@ -1,8 +1,8 @@
 -- A new transaction component has what holds of it.
 use Rattle.std.proofs.Common.{[], refl, arith, inr}
 use Rattle.std.proofs.lemmas.List.Elements.{All-nil}
-use Rattle.range_locks.proofs.Tables.{empty_table}
-use Rattle.tc_core.specs.restart.specs.Losers.{IsLoser, IsAt, IsUndone}
+use Rattle.tc_locks.proofs.Tables.{empty_table}
+use Rattle.tc_core.specs.tc_restart.specs.Losers.{IsLoser, IsAt, IsUndone}
 use Rattle.stable.specs.Usage.{unused}
 use Rattle.tc_core.specs.TcView.{fresh_tc}
 use Rattle.tc_core.specs.Kept.{IsTc}

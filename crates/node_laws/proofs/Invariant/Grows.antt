@@ -2,7 +2,7 @@
 use Rattle.std.proofs.Common.{◌≡◌, ◌≢◌, ℕ, ◌+◌, ◌<◌, ◌≤◌, ◌⊎◌, true, List, ◌∷◌, length, Option, Some, None, refl, sym, ap, ◌∙◌, subst, arith, inl, inr, true≢false}
 use Rattle.std.specs.List.{AllByRecursion}
 use Rattle.std.proofs.lemmas.Bool.{cases_Bool}
-use Rattle.range_locks.specs.Meant.{range_of}
+use Rattle.tc_locks.specs.Meant.{range_of}
 use Rattle.record_key.specs.declared.op.Op.{Op}
 use Rattle.record_key.specs.declared.op.Answer.{Answer}
 use Rattle.record_key.specs.Table.{Bytes}
@@ -14,24 +14,24 @@ use Rattle.record_key.specs.Order.{has_key}
 use Rattle.history.specs.Values.{is_on, value_with, value_on, IsRight, HasRightAnswers}
 use Rattle.log_laws.proofs.Records.{ARequest, older_at, at_newest}
 use Rattle.log_laws.proofs.LegalLogs.{request_number}
-use Rattle.logical_log.specs.LogView.{last_not_session}
+use Rattle.tc_log.specs.LogView.{last_not_session}
 use Rattle.framed_log.proofs.Beginning.{shorter}
 use Rattle.dc_core.proofs.KeepsDc.{all_both}
 use Rattle.framed_log.specs.Beginning.{beginning}
-use Rattle.range_locks.specs.declared.span.Span.{Span}
-use Rattle.range_locks.specs.declared.span.Span.TheVariants.{Key, Range}
+use Rattle.tc_locks.specs.declared.span.Span.{Span}
+use Rattle.tc_locks.specs.declared.span.Span.TheVariants.{Key, Range}
 use Rattle.codec.specs.declared.request.Request.{Request}
 use Rattle.codec.specs.declared.request.Request.TheVariants as asks
 use Rattle.codec.specs.declared.reply.Reply.{Reply}
 use Rattle.codec.specs.declared.reply.Reply.TheVariants as says
-use Rattle.page.specs.Leaf.{LeafView}
-use Rattle.recovery_laws.specs.Ready.{IsHonestTo}
-use Rattle.dc_core.specs.system_txn.specs.SystemView.{SystemView}
-use Rattle.dc_core.specs.system_txn.specs.Devices.{pages_of}
-use Rattle.dc_core.specs.system_txn.specs.Checked.{IsChecked}
+use Rattle.dc_leaf.specs.Leaf.{LeafView}
+use Rattle.dc_recovery.specs.Ready.{IsHonestTo}
+use Rattle.dc_core.specs.dc_store.specs.SystemView.{SystemView}
+use Rattle.dc_core.specs.dc_store.specs.Devices.{pages_of}
+use Rattle.dc_core.specs.dc_store.specs.Checked.{IsChecked}
 use Rattle.dc_core.specs.declared.performance.Performance.{Performance}
-use Rattle.page.specs.Honest.{IsHonestLeaf}
-use Rattle.page.proofs.Honest.{right_longer, honest_uncaptured}
+use Rattle.dc_leaf.specs.Honest.{IsHonestLeaf}
+use Rattle.dc_leaf.proofs.Honest.{right_longer, honest_uncaptured}
 use Rattle.dc_core.specs.DcView.{DcView}
 use Rattle.tc_core.specs.declared.open_txn.OpenTxn.{OpenTxn}
 use Rattle.tc_core.specs.OpenTxns.{find}
@@ -45,7 +45,7 @@ use Rattle.node_laws.specs.Node.{NodeView, with_tc}
 use Rattle.node_laws.specs.Kept.{IsKept, IsAnsweredBy, IsBegun, IsReadTrue, InSession, IsOlder, IsNext, IsConnect, IsSent, IsRightOrNone, IsAnswerIn, IsCaptured, IsAnswered, IsValueInSpan, AreRowsInSpan, StaysTrue, AreSessions, IsTrueTo, IsLowAnswered, AnsweredAreCaptured, EarlierAreCaptured}
 use Rattle.node_laws.specs.Source.{Source, IsWaiting, IsUntaken, IsSource, own}
 use Rattle.record_key.proofs.Lists.{all_from}
-use Rattle.page.proofs.OnKey.{key_on}
+use Rattle.dc_leaf.proofs.OnKey.{key_on}
 use Rattle.node_laws.proofs.Invariant.Announced.{part_grows, most_sure}
 use Rattle.node_laws.proofs.Invariant.Captured.{uncaptured_above, captured_in}
 use Rattle.node_laws.proofs.Invariant.LastRecord.{last_within, last_parts}

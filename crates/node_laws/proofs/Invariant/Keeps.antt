@@ -13,8 +13,8 @@ use Rattle.log_laws.proofs.Records.{ARequest, newest_at, older_at, IsNumber}
 use Rattle.log_laws.proofs.LegalLogs.{step_number}
 use Rattle.codec.specs.declared.request.Request.{Request}
 use Rattle.codec.specs.declared.reply.Reply.{Reply}
-use Rattle.page.proofs.Performing.{one_request}
-use Rattle.dc_core.specs.system_txn.specs.Checked.{IsChecked}
+use Rattle.dc_leaf.proofs.Performing.{one_request}
+use Rattle.dc_core.specs.dc_store.specs.Checked.{IsChecked}
 use Rattle.dc_core.specs.DcView.{DcView, captures_at}
 use Rattle.tc_core.specs.declared.phase.Phase.{Phase}
 use Rattle.tc_core.specs.declared.phase.Phase.TheVariants as phase

@@ -10,7 +10,7 @@ use Rattle.history.specs.declared.record.Record.TheVariants as is
 use Rattle.history.specs.Log.{record_at, request_in, Requests}
 use Rattle.log_laws.proofs.Records.{ARequest, no_request, newest_at, older_at, record_new, record_old}
 use Rattle.framed_log.specs.Beginning.{beginning}
-use Rattle.logical_log.specs.LogView.{last_not_session}
+use Rattle.tc_log.specs.LogView.{last_not_session}
 use Rattle.framed_log.proofs.Beginning.{of_beginning}
 
 abbrev pub AreAllSessions : List Record → Type 0

@@ -9,12 +9,12 @@ use Rattle.record_key.proofs.Lists.{all_from}
 use Rattle.history.specs.Log.{Requests}
 use Rattle.codec.specs.declared.request.Request.{Request}
 use Rattle.codec.specs.declared.request.Request.TheVariants as asks
-use Rattle.page.specs.Leaf.{LeafView}
-use Rattle.page.specs.Honest.{IsSavedRight, IsHonestLeaf}
-use Rattle.page.proofs.Captured.{falls, stands_on, earlier_captured}
+use Rattle.dc_leaf.specs.Leaf.{LeafView}
+use Rattle.dc_leaf.specs.Honest.{IsSavedRight, IsHonestLeaf}
+use Rattle.dc_leaf.proofs.Captured.{falls, stands_on, earlier_captured}
 use Rattle.history.specs.Honest.{numbered_on}
-use Rattle.page.proofs.Performing.{one_request}
-use Rattle.btree.proofs.AtKey.{within_at}
+use Rattle.dc_leaf.proofs.Performing.{one_request}
+use Rattle.dc_tree.proofs.AtKey.{within_at}
 use Rattle.dc_core.specs.declared.performance.Performance.{Performance}
 use Rattle.dc_core.specs.DcView.{leaves, captures_at}
 use Rattle.dc_core.specs.Serves.{MayAsk, MayTakeBack, ComesNext}

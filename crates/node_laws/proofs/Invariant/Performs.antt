@@ -8,14 +8,14 @@ use Rattle.history.specs.Log.{Requests}
 use Rattle.codec.specs.declared.request.Request.TheVariants as asks
 use Rattle.codec.specs.declared.reply.Reply.{Reply}
 use Rattle.codec.specs.declared.reply.Reply.TheVariants as says
-use Rattle.page.specs.Leaf.{LeafView, performed}
-use Rattle.page.specs.Honest.{IsHonestLeaf, IsNextOn}
-use Rattle.page.proofs.Performing.{one_request, right_answer, honest_performed}
-use Rattle.btree.specs.Leaves.{leaf_at}
-use Rattle.btree.proofs.AtKey.{within_at, captured_performed, captured_not_performed}
-use Rattle.btree.proofs.Changing.{all_changed}
-use Rattle.dc_core.specs.system_txn.specs.Kept.{IsRecoverable}
-use Rattle.dc_core.specs.system_txn.specs.Checked.{Checks}
+use Rattle.dc_leaf.specs.Leaf.{LeafView, performed}
+use Rattle.dc_leaf.specs.Honest.{IsHonestLeaf, IsNextOn}
+use Rattle.dc_leaf.proofs.Performing.{one_request, right_answer, honest_performed}
+use Rattle.dc_tree.specs.Leaves.{leaf_at}
+use Rattle.dc_tree.proofs.AtKey.{within_at, captured_performed, captured_not_performed}
+use Rattle.dc_tree.proofs.Changing.{all_changed}
+use Rattle.dc_core.specs.dc_store.specs.Kept.{IsRecoverable}
+use Rattle.dc_core.specs.dc_store.specs.Checked.{Checks}
 use Rattle.dc_core.specs.DcView.{DcView, leaves, captures_at}
 use Rattle.dc_core.specs.Serves.{performs, knows, runs}
 use Rattle.dc_core.specs.Kept.{IsDc}

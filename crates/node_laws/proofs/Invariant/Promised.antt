@@ -24,7 +24,7 @@ use Rattle.node_laws.specs.Node.{NodeView}
 use Rattle.node_laws.specs.Promises.{IsNoneRefused, IsUnrefused, KeptPromises}
 use Rattle.node_laws.specs.Simulation.{clients}
 use Rattle.std.specs.List.{AllByRecursion}
-use Rattle.page.specs.Honest.{IsHonestLeaf}
+use Rattle.dc_leaf.specs.Honest.{IsHonestLeaf}
 use Rattle.dc_core.specs.DcView.{leaves}
 use Rattle.node_laws.specs.Source.{Source}
 use Rattle.node_laws.proofs.Invariant.Sources.{live}

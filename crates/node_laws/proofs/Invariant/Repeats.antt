@@ -9,12 +9,12 @@ use Rattle.record_key.specs.Table.{key_of}
 use Rattle.history.specs.Values.{IsRight}
 use Rattle.codec.specs.declared.request.Request.TheVariants as asks
 use Rattle.record_key.specs.declared.entry.Entry.{Entry}
-use Rattle.ab_lsn.specs.AbLsn.{AbLsnView, captures, saved_in}
+use Rattle.dc_ab_lsn.specs.AbLsn.{AbLsnView, captures, saved_in}
 use Rattle.record_key.specs.Entries.{numbers}
-use Rattle.page.specs.Honest.{IsSavedRight}
-use Rattle.btree.specs.Leaves.{leaf_at}
+use Rattle.dc_leaf.specs.Honest.{IsSavedRight}
+use Rattle.dc_tree.specs.Leaves.{leaf_at}
 use Rattle.dc_core.specs.DcView.{leaves, captures_at}
-use Rattle.page.specs.Leaf.{LeafView}
+use Rattle.dc_leaf.specs.Leaf.{LeafView}
 use Rattle.node_laws.specs.Node.{NodeView}
 use Rattle.dc_core.specs.Serves.{runs, knows}
 use Rattle.node_laws.specs.Kept.{IsKept, IsNext, IsSent, IsRightOrNone, IsAnswerIn, IsAnswered}

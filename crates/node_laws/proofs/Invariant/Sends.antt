@@ -25,12 +25,12 @@ use Rattle.tc_core.specs.declared.phase.Phase.{Phase}
 use Rattle.tc_core.specs.declared.phase.Phase.TheVariants as phase
 use Rattle.stable.specs.Usage.{is_due, failed as failed_use}
 use Rattle.tc_core.specs.TcView.{TcView, failed, is_serving, is_none_lost}
-use Rattle.range_locks.specs.declared.span.Span.{Span}
-use Rattle.range_locks.specs.declared.span.Span.TheVariants.{Key, Range}
+use Rattle.tc_locks.specs.declared.span.Span.{Span}
+use Rattle.tc_locks.specs.declared.span.Span.TheVariants.{Key, Range}
 use Rattle.tc_core.specs.declared.open_txn.OpenTxn.{OpenTxn}
 use Rattle.tc_core.specs.declared.open_txn.Read.{Read}
 use Rattle.tc_core.specs.OpenTxns.{find}
-use Rattle.logical_log.specs.LogView.{spent_refusal}
+use Rattle.tc_log.specs.LogView.{spent_refusal}
 use Rattle.tc_core.specs.Refusing.{Refuses}
 use Rattle.tc_core.specs.Changes.{logged_session, reconnected, announced, asked_checkpoint, lost_comp, lost_compensated, lost_ended}
 use Rattle.tc_core.specs.Calls.{read_request, IsRequestOf}

@@ -2,7 +2,7 @@
 use Rattle.std.proofs.Common.{◌≡◌, ℕ, ◌<◌, ◌≤◌, Bool, true, false, List, ◌∷◌, length, Option, Some, None, IfSome, MatchBool, refl, sym, ap, ◌∙◌, subst, arith, inl, inr}
 use Rattle.std.specs.Prelude.{max, Err}
 use Rattle.std.proofs.lemmas.Bool.{cases_Bool, MatchBool-at_true, MatchBool-at_false}
-use Rattle.range_locks.specs.Meant.{range_of}
+use Rattle.tc_locks.specs.Meant.{range_of}
 use Rattle.record_key.specs.declared.refusal.Refusal.{Refusal}
 use Rattle.record_key.specs.declared.refusal.Refusal.TheVariants.{Device}
 use Rattle.stable.specs.Usage.{Usage, called, failed}
@@ -11,27 +11,27 @@ use Rattle.record_key.specs.Table.{Bytes, key_of, answer_in}
 use Rattle.history.specs.declared.record.Record.{Record}
 use Rattle.record_key.specs.Order.{has_key, rows_in}
 use Rattle.history.specs.Values.{value_on}
-use Rattle.range_locks.specs.declared.span.Span.{Span}
-use Rattle.range_locks.specs.declared.span.Span.TheVariants.{Key, Range}
+use Rattle.tc_locks.specs.declared.span.Span.{Span}
+use Rattle.tc_locks.specs.declared.span.Span.TheVariants.{Key, Range}
 use Rattle.codec.specs.declared.dc_record.DcRecord.TheVariants as dc_record
 use Rattle.codec.specs.declared.request.Request.{Request}
 use Rattle.codec.specs.declared.request.Request.TheVariants as asks
 use Rattle.codec.specs.declared.reply.Reply.{Reply}
 use Rattle.codec.specs.declared.reply.Reply.TheVariants as says
-use Rattle.ab_lsn.specs.AbLsn.{saved_in}
-use Rattle.btree.specs.Leaves.{leaf_at, rows_of}
-use Rattle.btree.proofs.Together.{one_table}
-use Rattle.recovery_laws.specs.Recovery.{stored_session}
-use Rattle.dc_core.specs.system_txn.specs.Kept.{IsRecoverable}
-use Rattle.dc_core.specs.system_txn.specs.Checked.{Checks, IsChecked}
-use Rattle.dc_core.specs.system_txn.specs.SystemView.{SystemView, log_refused}
-use Rattle.dc_core.specs.system_txn.specs.Changes.{lowered, accepted, taken_back, written_all}
-use Rattle.page.specs.Honest.{IsHonestLeaf}
-use Rattle.page.specs.TakingBack.{taken_back as leaf_taken_back}
-use Rattle.page.specs.Tops.{all_within}
-use Rattle.btree.proofs.Changing.{all_mapped}
-use Rattle.logical_log.specs.LogView.{last_not_session}
-use Rattle.dc_core.specs.system_txn.specs.Gives.{HaveImages, CheckpointGives, StopsCheckpoint, AcceptGives}
+use Rattle.dc_ab_lsn.specs.AbLsn.{saved_in}
+use Rattle.dc_tree.specs.Leaves.{leaf_at, rows_of}
+use Rattle.dc_tree.proofs.Together.{one_table}
+use Rattle.dc_recovery.specs.Recovery.{stored_session}
+use Rattle.dc_core.specs.dc_store.specs.Kept.{IsRecoverable}
+use Rattle.dc_core.specs.dc_store.specs.Checked.{Checks, IsChecked}
+use Rattle.dc_core.specs.dc_store.specs.SystemView.{SystemView, log_refused}
+use Rattle.dc_core.specs.dc_store.specs.Changes.{lowered, accepted, taken_back, written_all}
+use Rattle.dc_leaf.specs.Honest.{IsHonestLeaf}
+use Rattle.dc_leaf.specs.TakingBack.{taken_back as leaf_taken_back}
+use Rattle.dc_leaf.specs.Tops.{all_within}
+use Rattle.dc_tree.proofs.Changing.{all_mapped}
+use Rattle.tc_log.specs.LogView.{last_not_session}
+use Rattle.dc_core.specs.dc_store.specs.Gives.{HaveImages, CheckpointGives, StopsCheckpoint, AcceptGives}
 use Rattle.dc_core.specs.DcView.{DcView, leaves, captures_at, value_at}
 use Rattle.dc_core.specs.Kept.{IsDc}
 use Rattle.dc_core.specs.Serves.{Serves, ServeGives, Stops, StopsUnless, serve_refusal, runs, with_system, connected, knows, performs, lowers, redone, range}

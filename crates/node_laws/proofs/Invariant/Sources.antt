@@ -10,9 +10,9 @@ use Rattle.history.specs.Log.{Requests}
 use Rattle.log_laws.proofs.Records.{ARequest, kept_at}
 use Rattle.log_laws.proofs.LegalLogs.{request_number}
 use Rattle.framed_log.proofs.Beginning.{shorter}
-use Rattle.page.specs.Leaf.{LeafView}
-use Rattle.page.proofs.Honest.{honest_uncaptured}
-use Rattle.recovery_laws.specs.Ready.{IsHonestTo}
+use Rattle.dc_leaf.specs.Leaf.{LeafView}
+use Rattle.dc_leaf.proofs.Honest.{honest_uncaptured}
+use Rattle.dc_recovery.specs.Ready.{IsHonestTo}
 use Rattle.dc_core.specs.Serves.{runs}
 use Rattle.tc_core.specs.declared.phase.Phase.{Phase}
 use Rattle.tc_core.specs.declared.phase.Phase.TheVariants as phase

@@ -8,8 +8,8 @@ use Rattle.record_key.specs.Rows.{AreInOrder}
 use Rattle.record_key.proofs.Rows.{own_rows}
 use Rattle.record_key.specs.Order.{has_key, rows_in}
 use Rattle.log_laws.proofs.LegalLogs.{request_number}
-use Rattle.range_locks.specs.declared.span.Span.{Span}
-use Rattle.range_locks.specs.declared.span.Span.TheVariants.{Key, Range}
+use Rattle.tc_locks.specs.declared.span.Span.{Span}
+use Rattle.tc_locks.specs.declared.span.Span.TheVariants.{Key, Range}
 use Rattle.codec.specs.Fields.{IsNumber}
 use Rattle.codec.specs.declared.request.Request.{Request}
 use Rattle.codec.specs.declared.request.Request.TheVariants as asks
@@ -17,9 +17,9 @@ use Rattle.codec.specs.declared.reply.Reply.{Reply}
 use Rattle.codec.specs.declared.reply.Reply.TheVariants as says
 use Rattle.codec.specs.Requests.{HasRequestNumbers, IsRequest}
 use Rattle.codec.specs.Replies.{IsOrdered}
-use Rattle.ab_lsn.specs.AbLsn.{saved_in}
-use Rattle.page.proofs.Halves.{retained}
-use Rattle.btree.specs.Leaves.{leaf_at, rows_of}
+use Rattle.dc_ab_lsn.specs.AbLsn.{saved_in}
+use Rattle.dc_leaf.proofs.Halves.{retained}
+use Rattle.dc_tree.specs.Leaves.{leaf_at, rows_of}
 use Rattle.dc_core.specs.DcView.{DcView, leaves, captures_at}
 use Rattle.dc_core.specs.Serves.{Serves, knows, performs, range}
 use Rattle.tc_core.specs.TcView.{TcView}
@@ -28,7 +28,7 @@ use Rattle.record_key.specs.declared.refusal.Refusal.TheVariants.{NumbersSpent}
 use Rattle.record_key.specs.FirstCause.{first_of}
 use Rattle.history.specs.declared.record.Record.{Record}
 use Rattle.history.specs.Log.{Requests}
-use Rattle.logical_log.specs.LogView.{is_spent, spent_refusal}
+use Rattle.tc_log.specs.LogView.{is_spent, spent_refusal}
 use Rattle.tc_core.specs.declared.phase.Phase.{Phase}
 use Rattle.tc_core.specs.declared.phase.Phase.TheVariants as phase
 use Rattle.tc_core.specs.declared.told.Connecting.{Connecting}

@@ -11,17 +11,17 @@ use Rattle.record_key.specs.Table.{key_of}
 use Rattle.record_key.proofs.Lists.{all_from}
 use Rattle.history.specs.declared.record.Record.{Record}
 use Rattle.history.specs.Log.{record_at, Requests}
-use Rattle.page.specs.Leaf.{LeafView, IsLeaf}
-use Rattle.page.specs.Honest.{IsHonestLeaf, AreSessions}
-use Rattle.page.specs.TakingBack.{taken_back}
-use Rattle.page.proofs.Honest.{honest_longer}
-use Rattle.page.proofs.TakingBack.{honest_back}
-use Rattle.btree.specs.Leaves.{leaf_at}
+use Rattle.dc_leaf.specs.Leaf.{LeafView, IsLeaf}
+use Rattle.dc_leaf.specs.Honest.{IsHonestLeaf, AreSessions}
+use Rattle.dc_leaf.specs.TakingBack.{taken_back}
+use Rattle.dc_leaf.proofs.Honest.{honest_longer}
+use Rattle.dc_leaf.proofs.TakingBack.{honest_back}
+use Rattle.dc_tree.specs.Leaves.{leaf_at}
 use Rattle.dc_core.specs.declared.performance.Performance.{Performance}
 use Rattle.dc_core.specs.DcView.{leaves}
 use Rattle.dc_core.specs.Serves.{MayTakeBack, kept_to}
 use Rattle.dc_core.proofs.KeepsDc.{all_both}
-use Rattle.logical_log.specs.LogView.{last_not_session}
+use Rattle.tc_log.specs.LogView.{last_not_session}
 use Rattle.tc_core.specs.TcView.{TcView}
 use Rattle.node_laws.specs.Kept.{IsKept, IsLowAnswered}
 use Rattle.node_laws.specs.Node.{NodeView}

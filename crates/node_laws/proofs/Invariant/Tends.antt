@@ -3,21 +3,21 @@ use Rattle.std.proofs.Common.{◌≡◌, ℕ, Bool, true, false, refl, sym, subs
 use Rattle.std.specs.Prelude.{Result, Ok, Err, MatchBool, Option, Some, None}
 use Rattle.record_key.specs.declared.refusal.Refusal.{Refusal}
 use Rattle.record_key.specs.Table.{Bytes}
-use Rattle.btree.specs.Leaves.{leaf_at}
-use Rattle.recovery_laws.specs.Recovery.{stored_session}
-use Rattle.dc_core.specs.system_txn.specs.Kept.{IsRecoverable}
-use Rattle.dc_core.specs.system_txn.specs.Checked.{Checks}
+use Rattle.dc_tree.specs.Leaves.{leaf_at}
+use Rattle.dc_recovery.specs.Recovery.{stored_session}
+use Rattle.dc_core.specs.dc_store.specs.Kept.{IsRecoverable}
+use Rattle.dc_core.specs.dc_store.specs.Checked.{Checks}
 use Rattle.framed_log.specs.Refused.{refused_use}
-use Rattle.dc_core.specs.system_txn.specs.SystemView.{SystemView, log_refused}
-use Rattle.dc_core.specs.system_txn.specs.Changes.{split_to, merged_to, written_to, first_large, first_pair}
-use Rattle.dc_core.specs.system_txn.specs.Gives.{SplitsWithin, MergesWithin, SplitGives, MergeGives, TendGives, FlushGives, StopsWriting, tending}
-use Rattle.dc_core.specs.system_txn.specs.declared.tended.Neighbours.{Neighbours}
-use Rattle.dc_core.specs.system_txn.specs.declared.tended.Tended.{Tended}
-use Rattle.dc_core.specs.system_txn.specs.declared.tended.Tended.TheVariants as tended
-use Rattle.dc_core.specs.system_txn.specs.Gives as gives
+use Rattle.dc_core.specs.dc_store.specs.SystemView.{SystemView, log_refused}
+use Rattle.dc_core.specs.dc_store.specs.Changes.{split_to, merged_to, written_to, first_large, first_pair}
+use Rattle.dc_core.specs.dc_store.specs.Gives.{SplitsWithin, MergesWithin, SplitGives, MergeGives, TendGives, FlushGives, StopsWriting, tending}
+use Rattle.dc_core.specs.dc_store.specs.declared.tended.Neighbours.{Neighbours}
+use Rattle.dc_core.specs.dc_store.specs.declared.tended.Tended.{Tended}
+use Rattle.dc_core.specs.dc_store.specs.declared.tended.Tended.TheVariants as tended
+use Rattle.dc_core.specs.dc_store.specs.Gives as gives
 use Rattle.std.proofs.lemmas.Bool.{cases_Bool, MatchBool-at_true, MatchBool-at_false}
-use Rattle.page.specs.Leaf.{LeafView}
-use Rattle.page.specs.Tops.{is_within}
+use Rattle.dc_leaf.specs.Leaf.{LeafView}
+use Rattle.dc_leaf.specs.Tops.{is_within}
 use Rattle.dc_core.specs.DcView.{DcView, leaves}
 use Rattle.dc_core.specs.Kept.{IsDc}
 use Rattle.dc_core.specs.Serves.{with_system}

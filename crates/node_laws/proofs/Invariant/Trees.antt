@@ -7,34 +7,34 @@ use Rattle.std.proofs.lemmas.Bool.Decides.{nat_tests}
 use Rattle.record_key.specs.Table.{Bytes, key_of}
 use Rattle.record_key.proofs.Lists.{all_from}
 use Rattle.codec.specs.declared.dc_record.DcRecord.{DcRecord}
-use Rattle.ab_lsn.specs.AbLsn.{captures}
-use Rattle.ab_lsn.specs.Parting.{is_from}
-use Rattle.ab_lsn.proofs.Capturing.{raised_captures, joined_captures}
-use Rattle.page.specs.Leaf.{LeafView, first, is_in_fences, raised_to}
-use Rattle.page.specs.Tops.{is_within, are_within, all_within}
-use Rattle.page.specs.Parting.{upper_of, joined_of}
-use Rattle.page.specs.Honest.{IsHonestLeaf, IsCapturedTo}
-use Rattle.page.proofs.Raising.{honest_raised}
-use Rattle.btree.specs.Leaves.{leaf_at}
-use Rattle.btree.specs.Parting.{middle, may_split_at, may_merge_at, split_at, merged_at}
-use Rattle.btree.specs.TreeLaw.{AreHonestLeaves, AreCapturedAt}
-use Rattle.btree.proofs.AtKey.{captured_split, captured_merged, captured_raised}
-use Rattle.btree.proofs.Changing.{all_mapped}
-use Rattle.btree.proofs.Merging.{both_there, pair_all}
-use Rattle.btree.proofs.Places.{split_within, merge_within}
-use Rattle.btree.proofs.Whole.{all_get}
-use Rattle.btree.proofs.Stays.{split_honest, merged_honest}
-use Rattle.btree.proofs.Carried.{lows_raised, lows_split, lows_merged}
-use Rattle.btree.proofs.Owning.{own_leaves, the_upper, the_merged}
-use Rattle.recovery_laws.specs.Images.{leaf_of, image_of}
-use Rattle.recovery_laws.specs.Laws.{leaf_in}
-use Rattle.recovery_laws.specs.Ready.{IsHonestTo, AllHave}
-use Rattle.recovery_laws.specs.Recovery.{Pages}
-use Rattle.recovery_laws.proofs.Images.{leaf_again}
-use Rattle.recovery_laws.proofs.Honesty.{captures_fewer}
-use Rattle.dc_core.specs.system_txn.specs.SystemView.{SystemView}
-use Rattle.dc_core.specs.system_txn.specs.Devices.{pages_of}
-use Rattle.dc_core.specs.system_txn.specs.Changes.{next_id, next_number, split_to, merged_to, lowered}
+use Rattle.dc_ab_lsn.specs.AbLsn.{captures}
+use Rattle.dc_ab_lsn.specs.Parting.{is_from}
+use Rattle.dc_ab_lsn.proofs.Capturing.{raised_captures, joined_captures}
+use Rattle.dc_leaf.specs.Leaf.{LeafView, first, is_in_fences, raised_to}
+use Rattle.dc_leaf.specs.Tops.{is_within, are_within, all_within}
+use Rattle.dc_leaf.specs.Parting.{upper_of, joined_of}
+use Rattle.dc_leaf.specs.Honest.{IsHonestLeaf, IsCapturedTo}
+use Rattle.dc_leaf.proofs.Raising.{honest_raised}
+use Rattle.dc_tree.specs.Leaves.{leaf_at}
+use Rattle.dc_tree.specs.Parting.{middle, may_split_at, may_merge_at, split_at, merged_at}
+use Rattle.dc_tree.specs.TreeLaw.{AreHonestLeaves, AreCapturedAt}
+use Rattle.dc_tree.proofs.AtKey.{captured_split, captured_merged, captured_raised}
+use Rattle.dc_tree.proofs.Changing.{all_mapped}
+use Rattle.dc_tree.proofs.Merging.{both_there, pair_all}
+use Rattle.dc_tree.proofs.Places.{split_within, merge_within}
+use Rattle.dc_tree.proofs.Whole.{all_get}
+use Rattle.dc_tree.proofs.Stays.{split_honest, merged_honest}
+use Rattle.dc_tree.proofs.Carried.{lows_raised, lows_split, lows_merged}
+use Rattle.dc_tree.proofs.Owning.{own_leaves, the_upper, the_merged}
+use Rattle.dc_recovery.specs.Images.{leaf_of, image_of}
+use Rattle.dc_recovery.specs.Laws.{leaf_in}
+use Rattle.dc_recovery.specs.Ready.{IsHonestTo, AllHave}
+use Rattle.dc_recovery.specs.Recovery.{Pages}
+use Rattle.dc_recovery.proofs.Images.{leaf_again}
+use Rattle.dc_recovery.proofs.Honesty.{captures_fewer}
+use Rattle.dc_core.specs.dc_store.specs.SystemView.{SystemView}
+use Rattle.dc_core.specs.dc_store.specs.Devices.{pages_of}
+use Rattle.dc_core.specs.dc_store.specs.Changes.{next_id, next_number, split_to, merged_to, lowered}
 use Rattle.dc_core.specs.DcView.{leaves}
 use Rattle.dc_core.proofs.KeepsDc.{all_both}
 use Rattle.node_laws.specs.Node.{NodeView}

@@ -1,6 +1,6 @@
 -- Nothing that waits for its answer is done to the keys that a transaction reads.
 use Rattle.std.proofs.Common.{◌≡◌, ◌≢◌, ℕ, false, Some, None, is_some, sym, ap, ◌∙◌, subst, arith, inl, inr, true≢false}
-use Rattle.range_locks.specs.Meant.{range_of}
+use Rattle.tc_locks.specs.Meant.{range_of}
 use Rattle.record_key.specs.declared.op.Op.{Op}
 use Rattle.record_key.specs.Table.{key_of}
 use Rattle.record_key.specs.Order.{has_key}

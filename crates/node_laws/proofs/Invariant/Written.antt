@@ -5,19 +5,19 @@ use Rattle.std.specs.List.{AllByRecursion}
 use Rattle.record_key.specs.declared.refusal.Refusal.{Refusal}
 use Rattle.codec.specs.Images.{IsImage}
 use Rattle.codec.specs.declared.dc_record.DcRecord.{DcRecord}
-use Rattle.page.specs.Leaf.{LeafView, first}
-use Rattle.page.specs.Honest.{IsHonestLeaf}
-use Rattle.recovery_laws.specs.Images.{image_of}
-use Rattle.recovery_laws.specs.Recovery.{Pages, written}
-use Rattle.recovery_laws.specs.Laws.{leaf_in}
-use Rattle.recovery_laws.specs.Ready.{AllHave, IsHonestTo}
+use Rattle.dc_leaf.specs.Leaf.{LeafView, first}
+use Rattle.dc_leaf.specs.Honest.{IsHonestLeaf}
+use Rattle.dc_recovery.specs.Images.{image_of}
+use Rattle.dc_recovery.specs.Recovery.{Pages, written}
+use Rattle.dc_recovery.specs.Laws.{leaf_in}
+use Rattle.dc_recovery.specs.Ready.{AllHave, IsHonestTo}
 use Rattle.record_key.proofs.Lists.{all_from}
 use Rattle.stable.specs.Usage.{Usage, failed}
-use Rattle.dc_core.specs.system_txn.specs.SystemView.{SystemView}
-use Rattle.dc_core.specs.system_txn.specs.Devices.{pages_of}
-use Rattle.dc_core.specs.system_txn.specs.Changes.{covered, forced, written_to, written_all}
-use Rattle.dc_core.specs.system_txn.specs.Gives.{HaveImages, StopsWriting, FailsWriting, FailsAmong}
-use Rattle.dc_core.specs.system_txn.proofs.Written.{pages_written}
+use Rattle.dc_core.specs.dc_store.specs.SystemView.{SystemView}
+use Rattle.dc_core.specs.dc_store.specs.Devices.{pages_of}
+use Rattle.dc_core.specs.dc_store.specs.Changes.{covered, forced, written_to, written_all}
+use Rattle.dc_core.specs.dc_store.specs.Gives.{HaveImages, StopsWriting, FailsWriting, FailsAmong}
+use Rattle.dc_core.specs.dc_store.proofs.Written.{pages_written}
 use Rattle.tc_core.specs.TcView.{TcView}
 use Rattle.node_laws.specs.Kept.{IsTrueTo, IsLowAnswered}
 use Rattle.node_laws.specs.Source.{Source}

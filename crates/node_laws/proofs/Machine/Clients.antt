@@ -5,8 +5,8 @@ use Rattle.history.specs.Spans.{Span}
 use Rattle.simulation.specs.View.{Doing, Ready, Awaits, Looks, Rolls}
 use Rattle.simulation.specs.Running.{put}
 use Rattle.simulation.proofs.Doings.{put_same, put_other}
-use Rattle.range_locks.specs.Locks.{LocksView, spans_of, set_spans, IsTable}
-use Rattle.range_locks.proofs.Tables.{set_own, set_other}
+use Rattle.tc_locks.specs.Locks.{LocksView, spans_of, set_spans, IsTable}
+use Rattle.tc_locks.proofs.Tables.{set_own, set_other}
 use Rattle.tc_core.specs.declared.open_txn.OpenTxn.{OpenTxn}
 use Rattle.tc_core.specs.declared.open_txn.Read.{Read}
 use Rattle.tc_core.specs.declared.open_txn.Rollback.{Rollback}

@@ -8,7 +8,7 @@ use Rattle.record_key.specs.Table.{Bytes}
 use Rattle.record_key.specs.declared.refusal.Refusal.{Refusal}
 use Rattle.record_key.specs.declared.refusal.Refusal.TheVariants.{Full, BadSavepoint, BadRange, NumbersSpent}
 use Rattle.record_key.specs.FirstCause.{first_of}
-use Rattle.range_locks.specs.Meant.{range_of}
+use Rattle.tc_locks.specs.Meant.{range_of}
 use Rattle.history.specs.Spans.{Span, changed_span}
 use Rattle.record_key.specs.Order.{ends_above, HasKeys}
 use Rattle.history.specs.declared.record.Record.{Record}
@@ -17,22 +17,22 @@ use Rattle.history.specs.Log.{record_at}
 use Rattle.history.specs.ListMachine.{Machine, Line, Call, ToBegin, ToAct, ToRead, ToSave, ToGoBack, ToRollBack, ToCommit, IsRefused, Begins, Acts as acts, Reads, Saves as saves_line, GoesBack as goes_back, RollsBack as rolls_back_line, Commits, TellsRolledBack, TellsBack, asked_range, asked_span, Steps}
 use Rattle.simulation.specs.View.{StandsFor}
 use Rattle.simulation.specs.Running.{LeadsOn as LeadsTo}
-use Rattle.range_locks.specs.declared.span.Span.{Span as Keys}
-use Rattle.range_locks.specs.declared.span.Span.TheVariants.{Key, Range}
-use Rattle.range_locks.specs.Locks.{IsGrantable}
+use Rattle.tc_locks.specs.declared.span.Span.{Span as Keys}
+use Rattle.tc_locks.specs.declared.span.Span.TheVariants.{Key, Range}
+use Rattle.tc_locks.specs.Locks.{IsGrantable}
 use Rattle.tc_core.specs.declared.open_txn.OpenTxn.{OpenTxn}
 use Rattle.tc_core.specs.declared.open_txn.Read.{Read}
 use Rattle.tc_core.specs.declared.open_txn.Rollback.{Rollback}
 use Rattle.tc_core.specs.declared.told.UndoStep.{UndoStep}
 use Rattle.tc_core.specs.declared.told.UndoStep.TheVariants as undo
-use Rattle.logical_log.specs.LogView.{is_spent, spent_refusal}
-use Rattle.dc_core.specs.system_txn.specs.Checked.{IsChecked}
+use Rattle.tc_log.specs.LogView.{is_spent, spent_refusal}
+use Rattle.dc_core.specs.dc_store.specs.Checked.{IsChecked}
 use Rattle.tc_core.specs.OpenTxns.{find, replace}
 use Rattle.stable.specs.Usage.{Usage, failed}
 use Rattle.tc_core.specs.TcView.{TcView, used_so}
 use Rattle.tc_core.specs.Refusing.{Refuses}
 use Rattle.tc_core.specs.Causes.{serving_refusal, begin_refusal, commit_refusal, idle_refusal, read_refusal, save_refusal, saves_of, back_refusal, has_savepoint, undo_refusal, answered_refusal, undo_logs, RefusesTaking}
-use Rattle.logical_log.specs.Undoing.{inverse_at, next_at}
+use Rattle.tc_log.specs.Undoing.{inverse_at, next_at}
 use Rattle.tc_core.specs.Changes.{begun, acted, acted_txn, asked_read, reading_txn, shared, saved, saved_txn, going_back, going_back_txn, rolled, rolling_txn, committed, compensated, compensated_txn, wholly_undone, is_back, back_txn, forced}
 use Rattle.tc_core.specs.Calls.{IsAt, Acts, AsksRead, Saves, GoesBack, RollsBack, ReadGives, UndoGives, UndoesStep, Undoes}
 use Rattle.tc_core.specs.Kept.{IsTc}

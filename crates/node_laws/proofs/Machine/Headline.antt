@@ -4,10 +4,10 @@ use Rattle.std.specs.Prelude.{Result, Ok, Err, if◌then◌else◌}
 use Rattle.record_key.specs.declared.refusal.Refusal.{Refusal}
 use Rattle.record_key.specs.Order.{ends_above}
 use Rattle.record_key.specs.Table.{Bytes}
-use Rattle.dc_core.specs.system_txn.specs.declared.devices.Device.{Device}
-use Rattle.dc_core.specs.system_txn.specs.declared.devices.Device.TheVariants as device
-use Rattle.dc_core.specs.system_txn.specs.SystemView.{failing_at}
-use Rattle.dc_core.specs.system_txn.specs.Crashed.{crashed}
+use Rattle.dc_core.specs.dc_store.specs.declared.devices.Device.{Device}
+use Rattle.dc_core.specs.dc_store.specs.declared.devices.Device.TheVariants as device
+use Rattle.dc_core.specs.dc_store.specs.SystemView.{failing_at}
+use Rattle.dc_core.specs.dc_store.specs.Crashed.{crashed}
 use Rattle.dc_core.specs.Serves.{with_system}
 use Rattle.dc_core.specs.Restarting.{restarted}
 use Rattle.dc_core.proofs.Recoverable.{recoverable_served}
@@ -18,7 +18,7 @@ use Rattle.tc_core.specs.TcView.{fresh_tc}
 use Rattle.record_key.specs.declared.refusal.Refusal.TheVariants.{NotConnected, BadRange}
 use Rattle.node_laws.specs.Component.{DcSide, dc_used}
 use Rattle.node_laws.proofs.Restarts.Crashes.{crash_keeps, keeps_up, used_keeps}
-use Rattle.dc_core.specs.system_txn.specs.declared.tended.Tended.TheVariants as tended
+use Rattle.dc_core.specs.dc_store.specs.declared.tended.Tended.TheVariants as tended
 use Rattle.dc_core.specs.Kept.{IsDc}
 use Rattle.std.proofs.lemmas.List.{take_more}
 use Rattle.history.specs.ListMachine as machine

@@ -12,12 +12,12 @@ use Rattle.history.specs.declared.record.Record.{Record}
 use Rattle.history.specs.Log.{request_of}
 use Rattle.history.specs.Honest.{Numbered, numbered_with, numbered_on, LeavesOutAdds, value_of}
 use Rattle.history.specs.Values.{is_on, HasRightAnswers}
-use Rattle.ab_lsn.specs.AbLsn.{captures}
-use Rattle.page.specs.Leaf.{LeafView, first}
-use Rattle.recovery_laws.specs.Ready.{IsHonestTo}
+use Rattle.dc_ab_lsn.specs.AbLsn.{captures}
+use Rattle.dc_leaf.specs.Leaf.{LeafView, first}
+use Rattle.dc_recovery.specs.Ready.{IsHonestTo}
 use Rattle.stable.specs.Usage.{Usage}
-use Rattle.dc_core.specs.system_txn.specs.Devices.{pages_of}
-use Rattle.dc_core.specs.system_txn.proofs.Recoverable.{recoverable_fresh}
+use Rattle.dc_core.specs.dc_store.specs.Devices.{pages_of}
+use Rattle.dc_core.specs.dc_store.proofs.Recoverable.{recoverable_fresh}
 use Rattle.dc_core.specs.DcView.{fresh_dc}
 use Rattle.dc_core.specs.Kept.{IsDc}
 use Rattle.dc_core.proofs.Checked.{fresh_checked}

@@ -1,7 +1,7 @@
 -- Who waits for a read, as open transactions change: nobody waits for an earlier one anew.
 use Rattle.std.proofs.Common.{◌≡◌, ℕ, ◌≤◌, List, ◌∷◌, Option, Some, None, sym, ap, ◌∙◌, subst, inl, inr}
 use Rattle.std.proofs.lemmas.Bool.{cases_eq}
-use Rattle.range_locks.specs.declared.span.Span.{Span}
+use Rattle.tc_locks.specs.declared.span.Span.{Span}
 use Rattle.tc_core.specs.declared.open_txn.OpenTxn.{OpenTxn}
 use Rattle.tc_core.specs.OpenTxns.{find, replace, without}
 use Rattle.tc_core.specs.Changes.{begun_txn}

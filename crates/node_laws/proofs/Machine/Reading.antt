@@ -2,7 +2,7 @@
 use Rattle.std.proofs.Common.{◌≡◌, ◌≢◌, ℕ, true, false, List, Option, Some, None, IsSome, refl, sym, ap, ◌∙◌, subst, arith, inl, inr, true≢false}
 use Rattle.std.proofs.lemmas.Bool.{cases_Bool}
 use Rattle.std.specs.FinMap.{get}
-use Rattle.range_locks.specs.Meant.{range_of}
+use Rattle.tc_locks.specs.Meant.{range_of}
 use Rattle.record_key.specs.declared.op.Op.{Op}
 use Rattle.record_key.specs.declared.op.Answer.{Answer}
 use Rattle.record_key.specs.Table.{Bytes, key_of}
@@ -18,7 +18,7 @@ use Rattle.simulation.specs.View.{is_to_undo}
 use Rattle.simulation.proofs.Viewing.{plain_is_the_logs}
 use Rattle.dc_core.specs.DcView.{captures_at, value_at}
 use Rattle.dc_core.specs.Tends.{may_merge}
-use Rattle.page.proofs.OnKey.{all_done}
+use Rattle.dc_leaf.proofs.OnKey.{all_done}
 use Rattle.tc_core.specs.declared.open_txn.OpenTxn.{OpenTxn}
 use Rattle.tc_core.specs.declared.open_txn.Read.{Read}
 use Rattle.tc_core.specs.declared.open_txn.Rollback.{Rollback}

@@ -8,20 +8,20 @@ use Rattle.record_key.specs.declared.op.Op.{Op}
 use Rattle.record_key.specs.declared.refusal.Refusal.{Refusal}
 use Rattle.record_key.specs.declared.refusal.Refusal.TheVariants as no
 use Rattle.record_key.specs.FirstCause.{first_of, or_else}
-use Rattle.range_locks.specs.Meant.{range_of}
+use Rattle.tc_locks.specs.Meant.{range_of}
 use Rattle.history.specs.Spans.{Span, changed_span}
 use Rattle.record_key.specs.Order.{ends_above, HasKeys}
 use Rattle.history.specs.ListMachine.{Machine, Call, ToBegin, ToAct, ToRead, ToSave, ToGoBack, ToRollBack, ToCommit, AreDifferent, asked_range, asked_span}
 use Rattle.simulation.specs.View.{Ready, StandsFor}
 use Rattle.simulation.specs.Refusals.{IsRefusal, caller, wanted}
 use Rattle.simulation.proofs.Refusing.{busy_is_a_line, not_open_is_a_line, unanswered_is_a_line, rolling_back_is_a_line, bad_range_is_a_line, full_is_a_line, full_of_savepoints_is_a_line, bad_savepoint_is_a_line, node_refusal_is_a_line}
-use Rattle.range_locks.specs.declared.span.Span.{Span as Keys}
-use Rattle.range_locks.specs.declared.span.Span.TheVariants.{Key, Range}
-use Rattle.range_locks.specs.Locks.{IsLeastHolder}
+use Rattle.tc_locks.specs.declared.span.Span.{Span as Keys}
+use Rattle.tc_locks.specs.declared.span.Span.TheVariants.{Key, Range}
+use Rattle.tc_locks.specs.Locks.{IsLeastHolder}
 use Rattle.tc_core.specs.declared.open_txn.OpenTxn.{OpenTxn}
 use Rattle.tc_core.specs.declared.open_txn.Read.{Read}
 use Rattle.tc_core.specs.declared.open_txn.Rollback.{Rollback}
-use Rattle.logical_log.specs.LogView.{is_spent, spent_refusal}
+use Rattle.tc_log.specs.LogView.{is_spent, spent_refusal}
 use Rattle.tc_core.specs.OpenTxns.{find, AreBelow, AreFalling}
 use Rattle.tc_core.specs.TcView.{TcView, is_unconnected, is_serving, is_rolling, is_waiting}
 use Rattle.tc_core.specs.Refusing.{Refuses}

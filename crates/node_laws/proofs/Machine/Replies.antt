@@ -12,12 +12,12 @@ use Rattle.simulation.specs.View.{StandsFor}
 use Rattle.codec.specs.declared.reply.Reply.{Reply}
 use Rattle.codec.specs.declared.reply.Reply.TheVariants as says
 use Rattle.record_key.specs.Table.{Bytes, key_of}
-use Rattle.range_locks.specs.declared.span.Span.{Span}
-use Rattle.range_locks.specs.declared.span.Span.TheVariants.{Key, Range}
+use Rattle.tc_locks.specs.declared.span.Span.{Span}
+use Rattle.tc_locks.specs.declared.span.Span.TheVariants.{Key, Range}
 use Rattle.record_key.specs.declared.op.Op.{Op}
 use Rattle.history.specs.declared.record.Record.{Record}
 use Rattle.history.specs.Log.{record_at, Requests}
-use Rattle.page.proofs.Performing.{one_request}
+use Rattle.dc_leaf.proofs.Performing.{one_request}
 use Rattle.dc_core.specs.DcView.{DcView, captures_at}
 use Rattle.tc_core.specs.declared.open_txn.OpenTxn.{OpenTxn}
 use Rattle.tc_core.specs.declared.open_txn.Read.{Read}
@@ -25,10 +25,10 @@ use Rattle.tc_core.specs.declared.open_txn.Rollback.{Rollback}
 use Rattle.tc_core.specs.declared.phase.Phase.{Phase}
 use Rattle.tc_core.specs.declared.phase.Phase.TheVariants as phase
 use Rattle.tc_core.specs.declared.told.Told.TheVariants as told
-use Rattle.logical_log.specs.LogView.{is_spent}
+use Rattle.tc_log.specs.LogView.{is_spent}
 use Rattle.tc_core.specs.OpenTxns.{find}
 use Rattle.tc_core.specs.TcView.{TcView, is_none_lost, is_serving}
-use Rattle.dc_core.specs.system_txn.specs.Checked.{IsChecked}
+use Rattle.dc_core.specs.dc_store.specs.Checked.{IsChecked}
 use Rattle.tc_core.specs.Changes.{answered, answered_txn, answered_lost, was_told, told_txn, checkpointed, undoing_or_running}
 use Rattle.tc_core.specs.Replies.{Outcome, takes, awaiting, lacks, told_lost, next_phase, passed, on_awaited, on_answered, on_connected, on_redo_ended, on_checkpointed, on_reply, on_row, on_rows, is_number, is_key, is_range, span_read, reader, logs, reply_refusal}
 use Rattle.tc_core.specs.Kept.{IsTc, IsPhase, IsOwedAnswer}

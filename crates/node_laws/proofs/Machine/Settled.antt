@@ -15,10 +15,10 @@ use Rattle.history.specs.Log.{answer_of, request_in, op_in, Requests, hist}
 use Rattle.history.specs.Honest.{numbered_on, value_of}
 use Rattle.log_laws.specs.Laws.{OnlyOperationsWait}
 use Rattle.log_laws.proofs.Waiting.{answered_is_plain}
-use Rattle.btree.specs.Leaves.{rows_of}
-use Rattle.btree.proofs.Together.{one_table}
+use Rattle.dc_tree.specs.Leaves.{rows_of}
+use Rattle.dc_tree.proofs.Together.{one_table}
 use Rattle.dc_core.specs.DcView.{leaves, captures_at}
-use Rattle.page.proofs.OnKey.{all_done, value_alike}
+use Rattle.dc_leaf.proofs.OnKey.{all_done, value_alike}
 use Rattle.tc_core.specs.declared.open_txn.OpenTxn.{OpenTxn}
 use Rattle.tc_core.specs.declared.phase.Phase.{Phase}
 use Rattle.tc_core.specs.declared.phase.Phase.TheVariants as phase

@@ -33,26 +33,26 @@ use Rattle.simulation.proofs.Viewing.{neutral_is_no_step}
 use Rattle.simulation.proofs.Spanning.{free_by_true_spans}
 use Rattle.simulation.proofs.Leftovers.{leftovers_are_no_step, let_go_is_no_step}
 use Rattle.simulation.proofs.Equal.{stands_along}
-use Rattle.range_locks.specs.declared.span.Span.{Span as Keys}
-use Rattle.range_locks.specs.declared.span.Span.TheVariants.{Key, Range}
-use Rattle.range_locks.specs.Locks.{spans_of}
-use Rattle.range_locks.specs.Locks as locks
+use Rattle.tc_locks.specs.declared.span.Span.{Span as Keys}
+use Rattle.tc_locks.specs.declared.span.Span.TheVariants.{Key, Range}
+use Rattle.tc_locks.specs.Locks.{spans_of}
+use Rattle.tc_locks.specs.Locks as locks
 use Rattle.tc_core.specs.declared.open_txn.OpenTxn.{OpenTxn}
 use Rattle.tc_core.specs.declared.open_txn.Read.{Read}
 use Rattle.tc_core.specs.declared.open_txn.Rollback.{Rollback}
 use Rattle.tc_core.specs.OpenTxns.{find, without}
 use Rattle.tc_core.specs.TcView.{TcView}
-use Rattle.tc_core.specs.restart.specs.Losers.{LosersView, txns, IsLoser}
+use Rattle.tc_core.specs.tc_restart.specs.Losers.{LosersView, txns, IsLoser}
 use Rattle.tc_core.specs.Causes.{saves_of}
-use Rattle.logical_log.specs.Undoing.{inverse_at, next_at}
+use Rattle.tc_log.specs.Undoing.{inverse_at, next_at}
 use Rattle.tc_core.specs.Changes.{let_go, forced, logged_session, reconnected, begun_txn, begun, acted_txn, acted, reading_txn, shared, asked_read, told_txn, was_told, saved_txn, saved, rolling_txn, rolled, going_back_txn, going_back, committed, compensated_txn, compensated, wholly_undone, back_txn, is_back, answered_txn, answered, answered_lost, lost_comp, lost_compensated, lost_ended, checkpointed}
 use Rattle.tc_core.specs.Locking.{is_listed, is_holder}
 use Rattle.tc_core.specs.Kept.{IsTc, IsOwedAnswer, commits_in}
 use Rattle.tc_core.proofs.Finding.{find_here, find_there, found_number, without_same}
 use Rattle.node_laws.specs.Simulation.{query_of, doing_of, doing_in, clients, told_committed}
 use Rattle.node_laws.proofs.Machine.Clients.{put_is, doing_now, doing_kept, saves_replaced, saves_kept, doing_without, saves_without, spans_put, rests, awaits, looks, rolls}
-use Rattle.tc_core.specs.restart.specs.declared.loser.Loser.{Loser}
-use Rattle.tc_core.specs.restart.proofs.Losing.{loser_kept, loser_had}
+use Rattle.tc_core.specs.tc_restart.specs.declared.loser.Loser.{Loser}
+use Rattle.tc_core.specs.tc_restart.proofs.Losing.{loser_kept, loser_had}
 use Rattle.tc_core.proofs.Committing.{open_unlisted, holder_more}
 use Rattle.tc_core.proofs.KeepsSteps.{ends}
 use Rattle.tc_core.proofs.Losers.{listed_loser, loser_listed, same_listed, unlisted_late}

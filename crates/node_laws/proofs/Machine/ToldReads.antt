@@ -9,8 +9,8 @@ use Rattle.record_key.specs.Order as keys
 use Rattle.record_key.specs.Order.{is_below, HasKeys, has_key}
 use Rattle.history.specs.ListMachine.{Machine, TellsRow, TellsRows}
 use Rattle.simulation.specs.Running.{LeadsOn as LeadsTo}
-use Rattle.range_locks.specs.declared.span.Span.TheVariants.{Key, Range}
-use Rattle.range_locks.specs.Meant.{range_of}
+use Rattle.tc_locks.specs.declared.span.Span.TheVariants.{Key, Range}
+use Rattle.tc_locks.specs.Meant.{range_of}
 use Rattle.tc_core.specs.declared.open_txn.OpenTxn.{OpenTxn}
 use Rattle.tc_core.specs.declared.open_txn.Read.{Read}
 use Rattle.tc_core.specs.OpenTxns.{find}

@@ -16,7 +16,7 @@ use Rattle.log_laws.proofs.Undo.{number_before}
 use Rattle.tc_core.specs.declared.open_txn.OpenTxn.{OpenTxn}
 use Rattle.tc_core.specs.OpenTxns.{find}
 use Rattle.tc_core.specs.TcView.{TcView, is_none_lost}
-use Rattle.tc_core.specs.restart.specs.Losers.{IsLoser}
+use Rattle.tc_core.specs.tc_restart.specs.Losers.{IsLoser}
 use Rattle.tc_core.specs.Kept.{IsOwedAnswer, IsTc}
 use Rattle.tc_core.proofs.Finding.{found_number, found_own}
 use Rattle.tc_core.specs.Replies.{Outcome, awaiting, lacks, on_lost, passed}

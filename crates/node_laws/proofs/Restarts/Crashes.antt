@@ -6,27 +6,27 @@ use Rattle.record_key.specs.declared.entry.Entry.{Entry}
 use Rattle.record_key.proofs.Lists.{all_from}
 use Rattle.history.specs.Log.{Requests}
 use Rattle.framed_log.specs.Beginning.{beginning}
-use Rattle.logical_log.specs.LogView.{last_not_session}
-use Rattle.page.specs.Leaf.{LeafView}
-use Rattle.page.specs.Honest.{IsSavedRight, IsHonestLeaf}
-use Rattle.page.specs.Tops.{top}
-use Rattle.recovery_laws.specs.Recovery.{stored_session}
-use Rattle.recovery_laws.specs.Laws.{IsKeptByCuts}
-use Rattle.recovery_laws.specs.Ready.{IsHonestTo}
+use Rattle.tc_log.specs.LogView.{last_not_session}
+use Rattle.dc_leaf.specs.Leaf.{LeafView}
+use Rattle.dc_leaf.specs.Honest.{IsSavedRight, IsHonestLeaf}
+use Rattle.dc_leaf.specs.Tops.{top}
+use Rattle.dc_recovery.specs.Recovery.{stored_session}
+use Rattle.dc_recovery.specs.Laws.{IsKeptByCuts}
+use Rattle.dc_recovery.specs.Ready.{IsHonestTo}
 use Rattle.framed_log.proofs.Beginning.{twice, of_beginning}
-use Rattle.recovery_laws.proofs.Honesty.{captures_fewer, cuts_keep_honest}
-use Rattle.ab_lsn.specs.Parting.{is_under}
-use Rattle.dc_core.specs.system_txn.specs.SystemView.{SystemView}
-use Rattle.dc_core.specs.system_txn.specs.Devices.{pages_of}
-use Rattle.dc_core.specs.system_txn.specs.Kept.{IsSystem}
-use Rattle.dc_core.specs.system_txn.specs.Crashed.{crashed}
-use Rattle.dc_core.specs.system_txn.proofs.AfterCrash.{all_recovered, have_beginning, crashed_kept, crashed_recoverable}
-use Rattle.dc_core.specs.system_txn.proofs.Checked.{crashed_checked}
+use Rattle.dc_recovery.proofs.Honesty.{captures_fewer, cuts_keep_honest}
+use Rattle.dc_ab_lsn.specs.Parting.{is_under}
+use Rattle.dc_core.specs.dc_store.specs.SystemView.{SystemView}
+use Rattle.dc_core.specs.dc_store.specs.Devices.{pages_of}
+use Rattle.dc_core.specs.dc_store.specs.Kept.{IsSystem}
+use Rattle.dc_core.specs.dc_store.specs.Crashed.{crashed}
+use Rattle.dc_core.specs.dc_store.proofs.AfterCrash.{all_recovered, have_beginning, crashed_kept, crashed_recoverable}
+use Rattle.dc_core.specs.dc_store.proofs.Checked.{crashed_checked}
 use Rattle.dc_core.specs.DcView.{DcView, leaves, top_of}
 use Rattle.dc_core.specs.Kept.{IsDc}
 use Rattle.dc_core.specs.Restarting.{restarted}
 use Rattle.dc_core.proofs.KeepsDc.{keeps_opened, all_both}
-use Rattle.btree.specs.Leaves.{rows_of}
+use Rattle.dc_tree.specs.Leaves.{rows_of}
 use Rattle.dc_core.proofs.Stored.{stored_within}
 use Rattle.dc_core.specs.Serves.{runs}
 use Rattle.tc_core.specs.declared.phase.Phase.{Phase}

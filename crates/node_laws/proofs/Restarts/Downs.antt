@@ -10,20 +10,20 @@ use Rattle.stable.specs.Usage.{Usage, called_often}
 use Rattle.stable.specs.PagesState.{Pages}
 use Rattle.framed_log.specs.Beginning.{beginning}
 use Rattle.framed_log.proofs.Beginning.{everything}
-use Rattle.dc_core.specs.system_txn.specs.SystemView.{SystemView}
-use Rattle.dc_core.specs.system_txn.specs.Devices.{framing, spelled}
-use Rattle.dc_core.specs.system_txn.specs.Kept.{IsSystem, IsRecoverable}
-use Rattle.dc_core.specs.system_txn.specs.Recovering.{HoldsFrames, Recovers, RefusesRecovery}
-use Rattle.dc_core.specs.system_txn.specs.Crashed.{found, crashed}
-use Rattle.dc_core.specs.system_txn.proofs.AfterCrash.{crashed_kept}
-use Rattle.dc_core.specs.system_txn.proofs.Crashed.{crashes_leave_frames}
-use Rattle.dc_core.specs.system_txn.proofs.ReadOnce.{frames_read_once}
-use Rattle.dc_core.specs.system_txn.proofs.Restarting.{restarts, never_bad}
+use Rattle.dc_core.specs.dc_store.specs.SystemView.{SystemView}
+use Rattle.dc_core.specs.dc_store.specs.Devices.{framing, spelled}
+use Rattle.dc_core.specs.dc_store.specs.Kept.{IsSystem, IsRecoverable}
+use Rattle.dc_core.specs.dc_store.specs.Recovering.{HoldsFrames, Recovers, RefusesRecovery}
+use Rattle.dc_core.specs.dc_store.specs.Crashed.{found, crashed}
+use Rattle.dc_core.specs.dc_store.proofs.AfterCrash.{crashed_kept}
+use Rattle.dc_core.specs.dc_store.proofs.Crashed.{crashes_leave_frames}
+use Rattle.dc_core.specs.dc_store.proofs.ReadOnce.{frames_read_once}
+use Rattle.dc_core.specs.dc_store.proofs.Restarting.{restarts, never_bad}
 use Rattle.dc_core.specs.DcView.{DcView}
 use Rattle.dc_core.specs.Kept.{IsDc}
 use Rattle.dc_core.proofs.KeepsSystems.{usage_keeps}
 use Rattle.dc_core.specs.Restarting.{restarted}
-use Rattle.dc_core.specs.system_txn.specs.Uses.{StopsOpening, log_calls, page_calls}
+use Rattle.dc_core.specs.dc_store.specs.Uses.{StopsOpening, log_calls, page_calls}
 use Rattle.tc_core.specs.Opened.{UsedByOpening}
 use Rattle.node_laws.specs.Component.{bytes_left, Keeps, dc_size, found_on, dc_used, IsUp, IsDownWith}
 use Rattle.node_laws.proofs.Restarts.Keeping.{left_stable, left_within, keeps_of, cut_to, may_leave}

@@ -9,21 +9,21 @@ use Rattle.history.specs.Legal.{FitsCheckpoint}
 use Rattle.history.specs.Values.{HasRightAnswers}
 use Rattle.log_laws.proofs.LegalLogs.{right_rest}
 use Rattle.framed_log.specs.Beginning.{beginning}
-use Rattle.logical_log.specs.LogView.{last_not_session}
-use Rattle.range_locks.specs.declared.span.Span.{Span}
-use Rattle.range_locks.specs.declared.span.Span.TheVariants.{Key, Range}
+use Rattle.tc_log.specs.LogView.{last_not_session}
+use Rattle.tc_locks.specs.declared.span.Span.{Span}
+use Rattle.tc_locks.specs.declared.span.Span.TheVariants.{Key, Range}
 use Rattle.codec.specs.declared.request.Request.{Request}
 use Rattle.codec.specs.declared.request.Request.TheVariants as asks
 use Rattle.codec.specs.declared.reply.Reply.{Reply}
 use Rattle.codec.specs.declared.reply.Reply.TheVariants as says
-use Rattle.page.specs.Leaf.{LeafView}
+use Rattle.dc_leaf.specs.Leaf.{LeafView}
 use Rattle.record_key.proofs.Lists.{all_from}
-use Rattle.recovery_laws.specs.Recovery.{stored_session}
-use Rattle.recovery_laws.specs.Ready.{IsHonestTo, IsLow}
-use Rattle.recovery_laws.proofs.Ready.{ready_too}
-use Rattle.dc_core.specs.system_txn.specs.SystemView.{SystemView}
-use Rattle.dc_core.specs.system_txn.specs.Devices.{pages_of}
-use Rattle.dc_core.specs.system_txn.specs.Checked.{IsChecked}
+use Rattle.dc_recovery.specs.Recovery.{stored_session}
+use Rattle.dc_recovery.specs.Ready.{IsHonestTo, IsLow}
+use Rattle.dc_recovery.proofs.Ready.{ready_too}
+use Rattle.dc_core.specs.dc_store.specs.SystemView.{SystemView}
+use Rattle.dc_core.specs.dc_store.specs.Devices.{pages_of}
+use Rattle.dc_core.specs.dc_store.specs.Checked.{IsChecked}
 use Rattle.dc_core.specs.DcView.{DcView}
 use Rattle.tc_core.specs.declared.phase.Phase.{Phase}
 use Rattle.tc_core.specs.TcView.{TcView}

@@ -11,10 +11,10 @@ use Rattle.history.specs.Log.{request_of}
 use Rattle.history.specs.Values.{is_on}
 use Rattle.history.specs.Honest.{Numbered, numbered_with, numbered_on, LeavesOutAdds, value_of}
 use Rattle.std.proofs.lemmas.Bool.{or_right}
-use Rattle.ab_lsn.specs.AbLsn.{captures, stands_in}
-use Rattle.page.specs.Leaf.{LeafView}
-use Rattle.page.specs.Honest.{IsSavedRight}
-use Rattle.recovery_laws.specs.Ready.{IsHonestTo}
+use Rattle.dc_ab_lsn.specs.AbLsn.{captures, stands_in}
+use Rattle.dc_leaf.specs.Leaf.{LeafView}
+use Rattle.dc_leaf.specs.Honest.{IsSavedRight}
+use Rattle.dc_recovery.specs.Ready.{IsHonestTo}
 use Rattle.node_laws.proofs.Restarts.Beginnings.{StaysTo, request_less, right_less}
 
 -- one number less on the key that isn't captured

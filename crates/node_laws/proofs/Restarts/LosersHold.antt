@@ -10,8 +10,8 @@ use Rattle.history.specs.Log.{op_of, IsOpBy}
 use Rattle.history.specs.Spans.{Span, changed_span}
 use Rattle.log_laws.proofs.Records.{AnOp, both_same, newest_at, older_at, at_newest, at_older, not_newest}
 use Rattle.log_laws.proofs.LegalLogs.{op_number}
-use Rattle.range_locks.specs.Locks.{spans_of}
-use Rattle.tc_core.specs.restart.specs.Losers.{txns}
+use Rattle.tc_locks.specs.Locks.{spans_of}
+use Rattle.tc_core.specs.tc_restart.specs.Losers.{txns}
 use Rattle.simulation.proofs.Holding.{IsItsKey}
 use Rattle.simulation.specs.View.{IsAmong, AreItsKeys}
 use Rattle.tc_core.specs.declared.phase.Phase.{Phase}

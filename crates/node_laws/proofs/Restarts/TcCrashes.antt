@@ -13,8 +13,8 @@ use Rattle.history.specs.ListMachine.{Machine, Crashes}
 use Rattle.log_laws.proofs.LegalLogs.{begun_number}
 use Rattle.log_laws.proofs.Records.{within}
 use Rattle.framed_log.specs.Beginning.{beginning}
-use Rattle.range_locks.specs.Locks.{spans_of}
-use Rattle.tc_core.specs.restart.specs.Losers.{txns, IsLoser}
+use Rattle.tc_locks.specs.Locks.{spans_of}
+use Rattle.tc_core.specs.tc_restart.specs.Losers.{txns, IsLoser}
 use Rattle.simulation.specs.View.{View, StandsFor, is_begin, is_left_open, opened}
 use Rattle.simulation.specs.Running.{LeadsOn as LeadsTo}
 use Rattle.simulation.specs.Views.{IsUncommitting}

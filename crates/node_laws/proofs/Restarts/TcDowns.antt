@@ -8,9 +8,9 @@ use Rattle.stable.specs.Usage.{Usage}
 use Rattle.framed_log.specs.Beginning.{beginning}
 use Rattle.framed_log.proofs.Beginning.{everything}
 use Rattle.framed_log.proofs.Spelled.{spelled_longer}
-use Rattle.logical_log.specs.Opening.{IsLogOf}
-use Rattle.logical_log.specs.Spelled.{framing, spelled, AreRecords}
-use Rattle.logical_log.proofs.Crashed.{crash_leaves, opens_once}
+use Rattle.tc_log.specs.Opening.{IsLogOf}
+use Rattle.tc_log.specs.Spelled.{framing, spelled, AreRecords}
+use Rattle.tc_log.proofs.Crashed.{crash_leaves, opens_once}
 use Rattle.tc_core.specs.TcView.{TcView, used_so}
 use Rattle.tc_core.specs.Kept.{IsTc}
 use Rattle.tc_core.specs.Opened.{opens_as, crashed}

@@ -10,7 +10,7 @@ use Rattle.node_laws.specs.declared.event.Event.{Event}
 use Rattle.node_laws.specs.declared.event.Event.TheVariants as event
 use Rattle.node_laws.specs.declared.event.Out.{Out}
 use Rattle.node_laws.specs.declared.event.Out.TheVariants as out
-use Rattle.logical_log.specs.LogView.{last_not_session}
+use Rattle.tc_log.specs.LogView.{last_not_session}
 use Rattle.node_laws.specs.Node.{NodeView, AreUp, next_connect, Sends, ReconnectsTo, RecoversTo, SendsTo, StepsTo}
 use Rattle.node_laws.specs.Rounds.{IsDone, IsExchange, IsRecovering}
 use Rattle.node_laws.proofs.Settles.Exchanges.{HasReply, replied_once}

@@ -6,10 +6,10 @@ use Rattle.std.specs.List.{list_any}
 use Rattle.record_key.specs.declared.op.Op.{Op}
 use Rattle.record_key.specs.declared.op.Answer.{Answer}
 use Rattle.record_key.specs.Table.{key_of, answer_in}
-use Rattle.range_locks.specs.declared.span.Span.{Span}
-use Rattle.range_locks.specs.declared.span.Span.TheVariants.{Key, Range}
-use Rattle.ab_lsn.specs.AbLsn.{saved_in}
-use Rattle.btree.specs.Leaves.{leaf_at}
+use Rattle.tc_locks.specs.declared.span.Span.{Span}
+use Rattle.tc_locks.specs.declared.span.Span.TheVariants.{Key, Range}
+use Rattle.dc_ab_lsn.specs.AbLsn.{saved_in}
+use Rattle.dc_tree.specs.Leaves.{leaf_at}
 use Rattle.history.specs.declared.record.Record.{Record}
 use Rattle.history.specs.declared.record.Record.TheVariants as is
 use Rattle.history.specs.Log.{Requests}
@@ -25,7 +25,7 @@ use Rattle.tc_core.specs.declared.phase.Phase.{Phase}
 use Rattle.tc_core.specs.declared.phase.Phase.TheVariants as phase
 use Rattle.tc_core.specs.declared.told.Told.TheVariants as told
 use Rattle.tc_core.specs.OpenTxns.{find}
-use Rattle.tc_core.specs.restart.specs.Losers.{LosersView}
+use Rattle.tc_core.specs.tc_restart.specs.Losers.{LosersView}
 use Rattle.tc_core.specs.TcView.{TcView, is_none_lost, is_running}
 use Rattle.tc_core.specs.Changes.{reconnected, forced, undoing_or_running}
 use Rattle.tc_core.specs.Calls.{read_request}
@@ -42,7 +42,7 @@ use Rattle.node_laws.specs.declared.round.Round.{Round}
 use Rattle.node_laws.specs.declared.round.Round.TheVariants as round
 use Rattle.tc_core.specs.Opened.{IsOpenedAgain}
 use Rattle.node_laws.specs.Component.{TcSide, DcSide, dc_used}
-use Rattle.logical_log.specs.LogView.{last_not_session}
+use Rattle.tc_log.specs.LogView.{last_not_session}
 use Rattle.node_laws.specs.Node.{NodeView, AreUp, with_tc, next_connect, ReconnectsTo, RecoversTo, SendsTo, UndoesTo, ForcesTo, RestartsTcTo, RestartsDcTo}
 use Rattle.log_laws.proofs.LegalLogs.{request_number}
 use Rattle.tc_core.specs.Kept.{IsOwedAnswer as IsDueLost}

@@ -9,7 +9,7 @@ use Rattle.history.specs.declared.record.Record.TheVariants as is
 use Rattle.history.specs.Log.{is_crossed, has_ended, record_at, op_of, IsOpBy}
 use Rattle.log_laws.proofs.Records.{AnOp, newest_at, older_at, both_same}
 use Rattle.log_laws.proofs.LegalLogs.{crossed_push, ended_push}
-use Rattle.tc_core.specs.restart.specs.Losers.{IsLoser}
+use Rattle.tc_core.specs.tc_restart.specs.Losers.{IsLoser}
 use Rattle.node_laws.specs.Bound.{is_lost, lost_op, lost_ops, lost_end, lost_ends, lost_rounds}
 
 -- what has ended or is crossed stays so

@@ -5,14 +5,14 @@ use Rattle.record_key.specs.declared.op.Answer.{Answer}
 use Rattle.record_key.specs.Table.{Bytes, key_of, answer_in}
 use Rattle.history.specs.Log.{Requests}
 use Rattle.record_key.specs.Order.{rows_in}
-use Rattle.range_locks.specs.declared.span.Span.{Span}
-use Rattle.range_locks.specs.declared.span.Span.TheVariants.{Key, Range}
+use Rattle.tc_locks.specs.declared.span.Span.{Span}
+use Rattle.tc_locks.specs.declared.span.Span.TheVariants.{Key, Range}
 use Rattle.codec.specs.declared.request.Request.{Request}
 use Rattle.codec.specs.declared.request.Request.TheVariants as asks
 use Rattle.codec.specs.declared.reply.Reply.{Reply}
 use Rattle.codec.specs.declared.reply.Reply.TheVariants as says
-use Rattle.ab_lsn.specs.AbLsn.{saved_in}
-use Rattle.btree.specs.Leaves.{leaf_at, rows_of}
+use Rattle.dc_ab_lsn.specs.AbLsn.{saved_in}
+use Rattle.dc_tree.specs.Leaves.{leaf_at, rows_of}
 use Rattle.dc_core.specs.DcView.{DcView, leaves, captures_at, value_at}
 use Rattle.dc_core.specs.Serves.{Serves, performs, knows, range}
 use Rattle.tc_core.specs.declared.open_txn.OpenTxn.{OpenTxn}

@@ -17,8 +17,8 @@ use Rattle.tc_core.specs.OpenTxns.{find}
 use Rattle.tc_core.specs.TcView.{TcView, rolls_back, is_none_lost, is_running}
 use Rattle.tc_core.proofs.KeepsLost.{fits_lacking}
 use Rattle.node_laws.proofs.Machine.Waited.{lost_if}
-use Rattle.tc_core.specs.restart.specs.declared.loser.Loser.{Loser}
-use Rattle.logical_log.specs.Undoing.{inverse_at, next_at}
+use Rattle.tc_core.specs.tc_restart.specs.declared.loser.Loser.{Loser}
+use Rattle.tc_log.specs.Undoing.{inverse_at, next_at}
 use Rattle.tc_core.specs.Changes.{waits_for, compensated_txn, compensated, wholly_undone, is_back, back_txn, answered_txn, answered, answered_lost, forced, told_txn, was_told, undoing_or_running, lost_compensated, lost_ended}
 use Rattle.tc_core.specs.Replies.{awaiting, lacks, next_phase, on_awaited}
 use Rattle.tc_core.specs.Recovery.{redoing, CompensatesLatest, LosesLeast}

@@ -8,8 +8,8 @@ use Rattle.record_key.specs.declared.refusal.Refusal.{Refusal}
 use Rattle.record_key.specs.declared.refusal.Refusal.TheVariants.{Stale, NumbersSpent}
 use Rattle.record_key.specs.FirstCause.{first_of, RefusesAs, MayRefuse}
 use Rattle.tc_core.specs.Refusing.{Refuses}
-use Rattle.range_locks.specs.declared.span.Span.{Span}
-use Rattle.range_locks.specs.declared.span.Span.TheVariants.{Key, Range}
+use Rattle.tc_locks.specs.declared.span.Span.{Span}
+use Rattle.tc_locks.specs.declared.span.Span.TheVariants.{Key, Range}
 use Rattle.codec.specs.declared.request.Request.{Request}
 use Rattle.codec.specs.declared.request.Request.TheVariants as asks
 use Rattle.codec.specs.declared.reply.Reply.{Reply}
@@ -19,8 +19,8 @@ use Rattle.dc_core.specs.Serves.{session_refusal, after_redo_refusal, connect_re
 use Rattle.tc_core.specs.declared.open_txn.OpenTxn.{OpenTxn}
 use Rattle.tc_core.specs.declared.phase.Phase.{Phase}
 use Rattle.tc_core.specs.declared.phase.Phase.TheVariants as phase
-use Rattle.logical_log.specs.LogView.{is_spent as log_is_spent, last_not_session}
-use Rattle.dc_core.specs.system_txn.specs.Gives.{is_spent}
+use Rattle.tc_log.specs.LogView.{is_spent as log_is_spent, last_not_session}
+use Rattle.dc_core.specs.dc_store.specs.Gives.{is_spent}
 use Rattle.tc_core.specs.TcView.{TcView, is_waiting, waits}
 use Rattle.tc_core.specs.Causes.{resend_refusal, undo_refusal, undo_logs}
 use Rattle.tc_core.specs.OpenTxns.{find}

@@ -5,8 +5,8 @@ use Rattle.std.proofs.Crossing.{crosses}
 use Rattle.record_key.proofs.refusal.Refusal.TheSendSync as refusal
 use Rattle.stable.specs.declared.log_device.LogDevice as log_device
 use Rattle.stable.specs.declared.page_device.PageDevice as page_device
-use Rattle.worker_pool.specs.pool_sessions.proofs.Sharing.{any_session_send}
-use Rattle.worker_pool.specs.pool_journal.specs.declared.naming.Naming as naming
+use Rattle.engine_workers.specs.engine_sessions.proofs.Sharing.{any_session_send}
+use Rattle.engine_workers.specs.engine_history.specs.declared.naming.Naming as naming
 use Rattle.bench_crew.proofs.quiet.Quiet.TheSendSync as quiet
 use Rattle.bench_crew.specs.contracts.player.Player as Player
 use Rattle.bench_crew.proofs.engine.go.Goals as goal

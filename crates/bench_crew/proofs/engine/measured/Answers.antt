@@ -1,4 +1,4 @@
-use Rattle.worker_pool.proofs.Opening.{named_as}
+use Rattle.engine_workers.proofs.Opening.{named_as}
 use Rattle.bench_crew.proofs.engine.measured.Goals as goal
 
 pub measured_in-requires-clause-named : goal.measured_in-requires-clause-named

@@ -1,5 +1,5 @@
 use Rattle.std.proofs.Common.{length}
-use Rattle.worker_pool.specs.Opened.{tie_name}
+use Rattle.engine_workers.specs.Opened.{tie_name}
 use Rattle.bench_crew.proofs.engine.measured.Given as goal
 
 -- the engine's names are those of what was just opened

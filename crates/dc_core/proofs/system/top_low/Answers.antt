@@ -1,6 +1,6 @@
 use Rattle.std.proofs.Common.{◌∙◌, ◌<◌, ◌≤◌, ap, arith, length}
 use Rattle.std.proofs.lemmas.List.{take_all}
-use Rattle.page.specs.Leaf.{LeafView}
+use Rattle.dc_leaf.specs.Leaf.{LeafView}
 use Rattle.dc_core.specs.DcView.{top_low}
 use Rattle.dc_core.proofs.Leaves.{low_more}
 use Rattle.dc_core.proofs.system.top_low.Goals as goal

@@ -1,6 +1,6 @@
 use Rattle.std.proofs.Common.{◌∙◌, ◌<◌, ◌≤◌, ap, arith, length}
 use Rattle.std.proofs.lemmas.List.{take_all}
-use Rattle.page.specs.Tops.{top}
+use Rattle.dc_leaf.specs.Tops.{top}
 use Rattle.dc_core.specs.DcView.{top_of}
 use Rattle.dc_core.proofs.Leaves.{top_more}
 use Rattle.dc_core.proofs.system.top_of.Goals as goal

@@ -1,4 +1,4 @@
-use Rattle.monitor_engine.proofs.Opening.{named_as}
+use Rattle.engine_monitor.proofs.Opening.{named_as}
 use Rattle.example_client.proofs.threads.run.Goals as goal
 
 pub count-requires-clause-named : goal.count-requires-clause-named

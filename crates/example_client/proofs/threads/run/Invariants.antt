@@ -1,5 +1,5 @@
 use Rattle.std.proofs.Common.{length}
-use Rattle.monitor_engine.specs.Opened.{tie_name}
+use Rattle.engine_monitor.specs.Opened.{tie_name}
 use Rattle.example_client.proofs.threads.run.Given as goal
 
 -- the engine's names are those of what was just opened

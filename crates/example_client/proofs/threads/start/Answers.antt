@@ -3,7 +3,7 @@ use Rattle.std.proofs.Crossing.{crosses}
 use Rattle.file_devices.proofs.file_log.FileLog.TheSendSync as file_log
 use Rattle.file_devices.proofs.no_pages.NoPages.TheSendSync as no_pages
 use Rattle.record_key.proofs.refusal.Refusal.TheSendSync as refusal
-use Rattle.monitor_engine.proofs.Sharing.{any_session_send}
+use Rattle.engine_monitor.proofs.Sharing.{any_session_send}
 use Rattle.example_client.proofs.threads.start.Goals as goal
 
 pub spawn-requires-send-F : goal.spawn-requires-send-F

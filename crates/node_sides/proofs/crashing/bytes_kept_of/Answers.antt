@@ -1,7 +1,7 @@
 use Rattle.std.proofs.Common.{◌≡◌, ℕ, ◌+◌, ◌∙◌, ap, length, arith}
 use Rattle.node_laws.specs.Component.{lesser, tc_size}
 use Rattle.framed_log.proofs.Spelled.{spelled_longer}
-use Rattle.logical_log.specs.Spelled.{framing}
+use Rattle.tc_log.specs.Spelled.{framing}
 use Rattle.node_laws.proofs.Restarts.Keeping.{lesser_next}
 use Rattle.node_sides.proofs.crashing.bytes_kept_of.Goals as goal
 

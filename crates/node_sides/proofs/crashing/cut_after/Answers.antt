@@ -1,6 +1,6 @@
 use Rattle.std.proofs.Common.{◌≡◌, ◌∙◌, ◌+◌, ◌-◌, ℕ, length, ap, arith}
 use Rattle.framed_log.proofs.Spelled.{spelled_longer}
-use Rattle.logical_log.specs.Spelled.{framing}
+use Rattle.tc_log.specs.Spelled.{framing}
 use Rattle.node_laws.specs.Component.{tc_size, bytes_left}
 use Rattle.node_laws.proofs.Restarts.Keeping.{part_left}
 use Rattle.node_sides.proofs.crashing.cut_after.Goals as goal

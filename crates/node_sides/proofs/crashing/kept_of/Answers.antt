@@ -1,7 +1,7 @@
 use Rattle.std.proofs.Common.{◌≡◌, ℕ, ◌+◌, ◌∙◌, ap, length, arith}
 use Rattle.node_laws.specs.Component.{lesser, dc_size}
 use Rattle.framed_log.proofs.Spelled.{spelled_longer}
-use Rattle.node_laws.specs.system_txn.specs.Devices.{framing}
+use Rattle.node_laws.specs.dc_store.specs.Devices.{framing}
 use Rattle.node_laws.proofs.Restarts.Keeping.{lesser_next}
 use Rattle.node_sides.proofs.crashing.kept_of.Goals as goal
 

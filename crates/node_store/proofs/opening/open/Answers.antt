@@ -1,6 +1,6 @@
 use Rattle.std.proofs.Common.{sym, subst, inl, inr}
 use Rattle.stable.specs.Usage.{Usage}
-use Rattle.world.specs.tc_core.specs.Opening.{IsMadeOf}
+use Rattle.node_world.specs.tc_core.specs.Opening.{IsMadeOf}
 use Rattle.node_store.specs.Opening.{IsFit}
 use Rattle.node_store.proofs.opening.open.Goals as goal
 

@@ -4,11 +4,11 @@ use Rattle.record_key.specs.Table.{Table}
 use Rattle.history.specs.declared.record.Record.{Record}
 use Rattle.history.specs.History.{plain}
 use Rattle.history.specs.ListMachine.{is_live}
-use Rattle.log_rewriting.specs.Written.{written, count_with}
-use Rattle.btree.specs.Leaves.{rows_of}
-use Rattle.world.specs.dc_core.specs.DcView.{leaves}
+use Rattle.tc_rewriting.specs.Written.{written, count_with}
+use Rattle.dc_tree.specs.Leaves.{rows_of}
+use Rattle.node_world.specs.dc_core.specs.DcView.{leaves}
 use Rattle.simulation.specs.Reading.{machine_read, txn_read}
-use Rattle.world.specs.Quiet.{IsQuiet}
+use Rattle.node_world.specs.Quiet.{IsQuiet}
 use Rattle.node_store.proofs.Renewed.{tells, same_log, is_refused, refused_as}
 use Rattle.node_store.proofs.renewal.renew.Goals as goal
 

@@ -3,8 +3,8 @@ use Rattle.std.specs.FinMap.{entries}
 use Rattle.record_key.specs.Rows.{AreInOrder}
 use Rattle.record_key.specs.Table.{Table}
 use Rattle.record_key.proofs.Rows.{own_rows}
-use Rattle.btree.specs.Leaves.{rows_of}
-use Rattle.world.specs.dc_core.specs.DcView.{leaves}
+use Rattle.dc_tree.specs.Leaves.{rows_of}
+use Rattle.node_world.specs.dc_core.specs.DcView.{leaves}
 use Rattle.node_store.proofs.renewal.with_rows_of.Goals as goal
 
 pub rewrite-requires-clause-sorted : goal.rewrite-requires-clause-sorted

@@ -1,4 +1,4 @@
-use Rattle.range_locks.specs.Meant.{meant}
+use Rattle.tc_locks.specs.Meant.{meant}
 use Rattle.tc_core.proofs.Untaken.{holds_some, untaken}
 use Rattle.tc_core.proofs.locking.take.Goals as goal
 

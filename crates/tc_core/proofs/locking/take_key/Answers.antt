@@ -1,5 +1,5 @@
-use Rattle.range_locks.specs.declared.span.Span.TheVariants.{Key}
-use Rattle.range_locks.specs.Meant.{meant}
+use Rattle.tc_locks.specs.declared.span.Span.TheVariants.{Key}
+use Rattle.tc_locks.specs.Meant.{meant}
 use Rattle.tc_core.proofs.Untaken.{holds_some, untaken}
 use Rattle.tc_core.proofs.locking.take_key.Goals as goal
 

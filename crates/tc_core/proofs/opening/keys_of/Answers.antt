@@ -4,7 +4,7 @@ use Rattle.std.specs.Ordering.{nat_cmp}
 use Rattle.history.specs.declared.record.Record.{Record}
 use Rattle.history.specs.Log.{record_at}
 use Rattle.framed_log.proofs.Beginning.{everything}
-use Rattle.range_locks.specs.Rebuilt.{Listed, listed_spans}
+use Rattle.tc_locks.specs.Rebuilt.{Listed, listed_spans}
 use Rattle.tc_core.specs.Locking.{op_spans}
 use Rattle.tc_core.specs.Opening.{spans_if}
 use Rattle.tc_core.proofs.Rebuilt.{AreNoted, noted_none, noted_more, none_past}

@@ -23,10 +23,10 @@ use denote.Triple.Entry.{alive}
 use denote.Triple.Spec.{triple_of}
 use denote.Triple.Table.{entered}
 use denote.Triple.Walked.{says, Stays, stay_dropped, Goes-dropped, ends_at, walked, walk_Meets}
-use Rattle.btree.specs.Leaves.{rows_of}
-use Rattle.btree.specs.contracts.tree.Tree as L
-use Rattle.btree.specs.contracts.tree.TreeLeafSet.TheImpl as leaf_set
-use Rattle.system_txn.specs.contracts.system.SystemTxns as S
+use Rattle.dc_tree.specs.Leaves.{rows_of}
+use Rattle.dc_tree.specs.contracts.tree.Tree as L
+use Rattle.dc_tree.specs.contracts.tree.TreeLeafSet.TheImpl as leaf_set
+use Rattle.dc_store.specs.contracts.system.SystemTxns as S
 use Rattle.dc_core.specs.declared.base.Base.{Base}
 use Rattle.dc_core.specs.contracts.base.Base as T
 use Rattle.dc_core.specs.contracts.base.Base.of.Key.{name as #it}

@@ -1,7 +1,7 @@
 use Rattle.std.proofs.Common.{◌∙◌, ap}
-use Rattle.ab_lsn.specs.AbLsn.{captures}
-use Rattle.page.specs.Leaf.{LeafView}
-use Rattle.system_txn.proofs.Places.{leaf_there}
+use Rattle.dc_ab_lsn.specs.AbLsn.{captures}
+use Rattle.dc_leaf.specs.Leaf.{LeafView}
+use Rattle.dc_store.proofs.Places.{leaf_there}
 use Rattle.dc_core.proofs.dc.Dc.captures.Goals as goal
 
 pub returns : goal.returns

@@ -1,8 +1,8 @@
 use Rattle.std.proofs.Common.{ℕ, sym, subst}
 use Rattle.stable.specs.Usage.{failing_in}
-use Rattle.system_txn.specs.declared.devices.Device.{Device}
-use Rattle.system_txn.specs.declared.devices.Device.TheVariants as device
-use Rattle.system_txn.specs.SystemView.{SystemView, failing_at}
+use Rattle.dc_store.specs.declared.devices.Device.{Device}
+use Rattle.dc_store.specs.declared.devices.Device.TheVariants as device
+use Rattle.dc_store.specs.SystemView.{SystemView, failing_at}
 use Rattle.dc_core.specs.DcView.{DcView}
 use Rattle.dc_core.specs.Kept.{IsDc}
 use Rattle.dc_core.specs.Seen.{seen}

@@ -2,7 +2,7 @@ use Rattle.std.proofs.Common.{◌≡◌, ◌<◌, ◌≤◌, ◌∙◌, length, 
 use Rattle.std.specs.List.{AllByRecursion}
 use Rattle.std.proofs.lemmas.Option.{slice_get-get_or}
 use Rattle.record_key.specs.declared.entry.Entry.{Entry}
-use Rattle.page.specs.Leaf.{LeafView, first}
+use Rattle.dc_leaf.specs.Leaf.{LeafView, first}
 use Rattle.dc_core.specs.Shows.{IsOn}
 use Rattle.dc_core.proofs.Walks.{all_get, all_more, all_through}
 use Rattle.dc_core.proofs.dc.Dc.is_saved_on.Goals as goal

@@ -3,8 +3,8 @@ use Rattle.dc_core.specs.Seen.{seen}
 use Rattle.dc_core.specs.Kept.{IsDc}
 use Rattle.dc_core.specs.Serves.{with_system}
 use Rattle.dc_core.proofs.KeepsSystems.{lower_keeps}
-use Rattle.system_txn.specs.SystemView.{SystemView}
-use Rattle.system_txn.specs.Kept.{IsSystem}
+use Rattle.dc_store.specs.SystemView.{SystemView}
+use Rattle.dc_store.specs.Kept.{IsSystem}
 use Rattle.dc_core.proofs.dc.Dc.lower.Goals as goal
 
 pub invariant_of-self : goal.invariant_of-self

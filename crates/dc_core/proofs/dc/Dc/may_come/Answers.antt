@@ -1,9 +1,9 @@
 use Rattle.std.proofs.Common.{◌∙◌, ap, sym, subst}
 use Rattle.std.specs.List.{AllByRecursion}
 use Rattle.record_key.specs.Table.{Bytes}
-use Rattle.page.specs.Leaf.{LeafView}
-use Rattle.btree.specs.Leaves.{leaf_at}
-use Rattle.system_txn.proofs.Places.{leaf_there}
+use Rattle.dc_leaf.specs.Leaf.{LeafView}
+use Rattle.dc_tree.specs.Leaves.{leaf_at}
+use Rattle.dc_store.proofs.Places.{leaf_there}
 use Rattle.dc_core.specs.Shows.{Follows}
 use Rattle.dc_core.proofs.dc.Dc.may_come.Goals as goal
 

@@ -1,6 +1,6 @@
 use Rattle.std.proofs.Common.{◌∙◌, false, ap, length, sym}
-use Rattle.recovery_laws.specs.Recovery.{stored_session}
-use Rattle.system_txn.specs.SystemView.{SystemView}
+use Rattle.dc_recovery.specs.Recovery.{stored_session}
+use Rattle.dc_store.specs.SystemView.{SystemView}
 use Rattle.dc_core.specs.DcView.{top_of}
 use Rattle.dc_core.proofs.KeepsDc.{keeps_opened, first_rows}
 use Rattle.dc_core.proofs.dc.Dc.new.Goals as goal

@@ -1,6 +1,6 @@
 use Rattle.std.proofs.Common.{◌≡◌, ◌<◌, ◌≤◌, ◌∙◌, length, get_or, ap, arith, refl}
 use Rattle.std.proofs.lemmas.Option.{slice_get-get_or}
-use Rattle.page.specs.Leaf.{LeafView, first}
+use Rattle.dc_leaf.specs.Leaf.{LeafView, first}
 use Rattle.dc_core.proofs.Walks.{all_get, all_more, all_through}
 use Rattle.dc_core.proofs.dc.Dc.none_hidden.Goals as goal
 

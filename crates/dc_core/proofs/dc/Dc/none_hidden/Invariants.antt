@@ -1,6 +1,6 @@
 use Rattle.std.proofs.Common.{◌<◌, take}
 use Rattle.std.specs.List.{AllByRecursion}
-use Rattle.page.specs.Leaf.{LeafView}
+use Rattle.dc_leaf.specs.Leaf.{LeafView}
 use Rattle.dc_core.proofs.dc.Dc.none_hidden.Given as goal
 
 -- the leaves so far have a low number below it

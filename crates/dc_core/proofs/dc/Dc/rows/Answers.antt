@@ -1,8 +1,8 @@
 use Rattle.std.proofs.Common.{◌∙◌, ◌<◌, ◌≤◌, ◌++◌, ap, sym, arith, take, length}
 use Rattle.std.proofs.lemmas.List.{take_all}
 use Rattle.std.specs.FinMap.{entries}
-use Rattle.page.specs.Leaf.{LeafView}
-use Rattle.btree.specs.Leaves.{all_rows}
+use Rattle.dc_leaf.specs.Leaf.{LeafView}
+use Rattle.dc_tree.specs.Leaves.{all_rows}
 use Rattle.dc_core.proofs.Leaves.{rows_more}
 use Rattle.dc_core.proofs.dc.Dc.rows.Goals as goal
 

@@ -1,5 +1,5 @@
 use Rattle.std.proofs.Common.{◌≡◌, take}
-use Rattle.btree.specs.Leaves.{all_rows}
+use Rattle.dc_tree.specs.Leaves.{all_rows}
 use Rattle.dc_core.proofs.dc.Dc.rows.Given as goal
 
 -- the rows of the leaves so far

@@ -1,6 +1,6 @@
 use Rattle.std.proofs.Common.{◌∙◌, sym, ap}
-use Rattle.btree.specs.Leaves.{all_rows}
-use Rattle.btree.proofs.Together.{one_table}
+use Rattle.dc_tree.specs.Leaves.{all_rows}
+use Rattle.dc_tree.proofs.Together.{one_table}
 use Rattle.node_laws.specs.dc_core.specs.DcView.{DcView, leaves}
 use Rattle.node_sides.proofs.dc_side.DcSide.rows.Goals as goal
 

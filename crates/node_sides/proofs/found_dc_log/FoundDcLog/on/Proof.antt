@@ -25,7 +25,7 @@ use denote.Triple.Spec.{triple_of}
 use denote.Triple.Table.{entered}
 use denote.Triple.Walked.{says, Stays, stay_dropped, Goes-dropped, ends_at, walked, walk_Meets}
 use Rattle.codec.specs.declared.dc_record.DcRecord.{DcRecord}
-use Rattle.node_laws.specs.system_txn.specs.Recovering.{HoldsFrames}
+use Rattle.node_laws.specs.dc_store.specs.Recovering.{HoldsFrames}
 use Rattle.node_sides.specs.declared.found_dc_log.FoundDcLog.{FoundDcLog}
 use Rattle.node_sides.specs.contracts.found_dc_log.FoundDcLog as T
 use Rattle.node_sides.specs.contracts.found_dc_log.FoundDcLog.on.Key.{name as #it}

@@ -25,7 +25,7 @@ use denote.Triple.Spec.{triple_of}
 use denote.Triple.Table.{entered}
 use denote.Triple.Walked.{says, Stays, stay_dropped, Goes-dropped, ends_at, walked, walk_Meets}
 use Rattle.history.specs.declared.record.Record.{Record}
-use Rattle.logical_log.specs.Opening.{IsLogOf}
+use Rattle.tc_log.specs.Opening.{IsLogOf}
 use Rattle.node_sides.specs.declared.found_tc_log.FoundTcLog.{FoundTcLog}
 use Rattle.node_sides.specs.contracts.found_tc_log.FoundTcLog as T
 use Rattle.node_sides.specs.contracts.found_tc_log.FoundTcLog.on.Key.{name as #it}

@@ -1,5 +1,5 @@
 use Rattle.std.proofs.Common.{sym, subst}
-use Rattle.node_laws.specs.system_txn.specs.Kept.{IsRecoverable}
+use Rattle.node_laws.specs.dc_store.specs.Kept.{IsRecoverable}
 use Rattle.node_laws.specs.dc_core.specs.DcView.{DcView}
 use Rattle.node_laws.specs.Component.{found_on, IsUp, IsDownWith}
 use Rattle.node_laws.proofs.Restarts.Downs.{opened_is, down_with, down_kept}

@@ -1,6 +1,6 @@
 use Rattle.std.proofs.Common.{◌∙◌, ap, sym, subst}
-use Rattle.logical_log.proofs.Crashed.{never_bad}
-use Rattle.logical_log.specs.Opening.{IsLogOf, UsedToOpen}
+use Rattle.tc_log.proofs.Crashed.{never_bad}
+use Rattle.tc_log.specs.Opening.{IsLogOf, UsedToOpen}
 use Rattle.node_laws.specs.tc_core.specs.TcView.{TcView, used_so}
 use Rattle.node_laws.specs.tc_core.specs.Opened.{IsOpenedAgain}
 use Rattle.node_laws.specs.tc_core.proofs.CrashedTc.{opens_again}

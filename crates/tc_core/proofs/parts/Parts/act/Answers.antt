@@ -1,14 +1,14 @@
 use Rattle.std.proofs.Common.{◌≡◌, ◌∷◌, subst, Some, inr, ap, Err}
 use Rattle.history.specs.declared.record.Record.TheVariants.{Op}
 use Rattle.history.specs.Spans.{Span, at_key, changed_span}
-use Rattle.range_locks.specs.Meant.{mode_meant}
-use Rattle.range_locks.specs.Locks.{spans_of, set_spans, IsGrantable}
+use Rattle.tc_locks.specs.Meant.{mode_meant}
+use Rattle.tc_locks.specs.Locks.{spans_of, set_spans, IsGrantable}
 use Rattle.tc_core.specs.declared.change.Change.TheVariants.{Stepped}
-use Rattle.logical_log.specs.LogView.{is_spent}
+use Rattle.tc_log.specs.LogView.{is_spent}
 use Rattle.tc_core.specs.Seen.{seen}
 use Rattle.tc_core.proofs.KeepsTc.{fits_op, keeps_act}
 use Rattle.tc_core.proofs.Rebuilt.{taken_span}
-use Rattle.compensation.proofs.Numbers.{fits_numbers}
+use Rattle.tc_undo.proofs.Numbers.{fits_numbers}
 use Rattle.tc_core.proofs.Refused.{keeps_refused, refuses, happened}
 use Rattle.tc_core.proofs.Untaken.{holds_some, untaken}
 use Rattle.tc_core.proofs.parts.Parts.act.Goals as goal

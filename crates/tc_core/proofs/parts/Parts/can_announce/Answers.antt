@@ -1,5 +1,5 @@
 use Rattle.std.proofs.Common.{◌≡◌, Bool, MatchBool, subst, arith, inr, refl}
-use Rattle.logical_log.specs.Low.{IsGreatestLow}
+use Rattle.tc_log.specs.Low.{IsGreatestLow}
 use Rattle.tc_core.specs.Seen.{seen}
 use Rattle.tc_core.proofs.parts.Parts.can_announce.Goals as goal
 

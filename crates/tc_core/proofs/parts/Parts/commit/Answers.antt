@@ -1,7 +1,7 @@
 use Rattle.std.proofs.Common.{◌≡◌, ◌∷◌, [], ◌++◌, List, ℕ, ap, ◌∙◌}
 use Rattle.history.specs.declared.record.Record.TheVariants.{Commit}
 use Rattle.tc_core.specs.Seen.{seen}
-use Rattle.compensation.proofs.Numbers.{fits_numbers}
+use Rattle.tc_undo.proofs.Numbers.{fits_numbers}
 use Rattle.tc_core.proofs.KeepsUndo.{fits_commit, keeps_commit}
 use Rattle.tc_core.proofs.parts.Parts.commit.Goals as goal
 

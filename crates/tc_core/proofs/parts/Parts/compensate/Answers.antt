@@ -2,11 +2,11 @@ use Rattle.std.proofs.Common.{◌≡◌, ℕ, ◌<◌, is_some, refl, sym, ap, s
 use Rattle.history.specs.declared.record.Record.TheVariants.{Comp}
 use Rattle.history.specs.declared.record.Record.{Record}
 use Rattle.history.specs.Legal.{Fits}
-use Rattle.compensation.specs.NextUndo.{Compensates, Undoes, UndoesNext, undo_next_in, has_inverse}
+use Rattle.tc_undo.specs.NextUndo.{Compensates, Undoes, UndoesNext, undo_next_in, has_inverse}
 use Rattle.tc_core.specs.declared.change.Change.TheVariants.{Stepped}
 use Rattle.tc_core.specs.declared.told.UndoStep.TheVariants.{Compensated}
-use Rattle.logical_log.specs.LogView.{is_spent}
-use Rattle.logical_log.specs.Undoing.{inverse_at, next_at}
+use Rattle.tc_log.specs.LogView.{is_spent}
+use Rattle.tc_log.specs.Undoing.{inverse_at, next_at}
 use Rattle.tc_core.specs.Changes.{waits_for, compensated}
 use Rattle.tc_core.specs.Kept.{IsTc}
 use Rattle.tc_core.specs.TcView.{TcView}

@@ -3,12 +3,12 @@ use Rattle.std.specs.Prelude.{is_some, length, List}
 use Rattle.history.specs.declared.record.Record.{Record}
 use Rattle.history.specs.Legal.{Fits, Stands}
 use Rattle.log_laws.proofs.LegalLogs.{stands_number}
-use Rattle.compensation.specs.declared.undo_chain.Chain.{Chain}
-use Rattle.compensation.specs.NextUndo.{Compensates, MayUndo, Undoes, UndoesNext, undo_next_in, has_inverse}
-use Rattle.restart.specs.declared.loser.Loser.{Loser}
-use Rattle.restart.specs.Losers.{TakesComp}
+use Rattle.tc_undo.specs.declared.undo_chain.Chain.{Chain}
+use Rattle.tc_undo.specs.NextUndo.{Compensates, MayUndo, Undoes, UndoesNext, undo_next_in, has_inverse}
+use Rattle.tc_restart.specs.declared.loser.Loser.{Loser}
+use Rattle.tc_restart.specs.Losers.{TakesComp}
 use Rattle.tc_core.specs.declared.phase.Phase.TheVariants.{Undoing}
-use Rattle.logical_log.specs.Undoing.{inverse_at, next_at}
+use Rattle.tc_log.specs.Undoing.{inverse_at, next_at}
 use Rattle.tc_core.specs.Changes.{waits_for, lost_comp, lost_compensated}
 use Rattle.tc_core.specs.Kept.{IsTc}
 use Rattle.tc_core.specs.Seen.{seen}

@@ -1,7 +1,7 @@
 use Rattle.history.specs.declared.record.Record.TheVariants.{End}
 use Rattle.tc_core.specs.Seen.{seen}
 use Rattle.tc_core.proofs.KeepsLosing.{fits_lost_end, losers_ended, keeps_lost_end}
-use Rattle.compensation.proofs.Numbers.{fits_numbers}
+use Rattle.tc_undo.proofs.Numbers.{fits_numbers}
 use Rattle.tc_core.proofs.parts.Parts.end_loser.Goals as goal
 
 pub append-requires : goal.append-requires

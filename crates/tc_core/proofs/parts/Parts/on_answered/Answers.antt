@@ -7,7 +7,7 @@ use Rattle.tc_core.specs.Replies.{awaiting, takes}
 use Rattle.tc_core.specs.Seen.{seen}
 use Rattle.tc_core.proofs.KeepsTc.{fits_answer, keeps_answer, keeps_passed, newly_answered, awaited_is}
 use Rattle.history.specs.declared.record.Record.TheVariants.{Answer}
-use Rattle.compensation.proofs.Numbers.{fits_numbers}
+use Rattle.tc_undo.proofs.Numbers.{fits_numbers}
 use Rattle.tc_core.proofs.Refused.{happened}
 use Rattle.tc_core.proofs.parts.Parts.on_answered.Goals as goal
 

@@ -2,7 +2,7 @@ use Rattle.std.proofs.Common.{Some, ap, ◌∙◌}
 use Rattle.history.specs.declared.record.Record.TheVariants.{Checkpoint}
 use Rattle.tc_core.specs.Seen.{seen}
 use Rattle.tc_core.proofs.KeepsLow.{fits_checkpoint, keeps_checkpointed}
-use Rattle.compensation.proofs.Numbers.{fits_numbers}
+use Rattle.tc_undo.proofs.Numbers.{fits_numbers}
 use Rattle.tc_core.proofs.parts.Parts.on_checkpointed.Goals as goal
 
 pub append-requires : goal.append-requires

@@ -4,7 +4,7 @@ use Rattle.history.specs.declared.record.Record.TheVariants.{Answer}
 use Rattle.tc_core.specs.Seen.{seen}
 use Rattle.tc_core.proofs.KeepsTc.{keeps_passed}
 use Rattle.tc_core.proofs.KeepsLost.{not_lacking, fits_lacking, keeps_lost_answer}
-use Rattle.compensation.proofs.Numbers.{fits_numbers}
+use Rattle.tc_undo.proofs.Numbers.{fits_numbers}
 use Rattle.tc_core.proofs.parts.Parts.on_unawaited.Goals as goal
 
 pub pass-requires-clause-kept : goal.pass-requires-clause-kept

@@ -1,5 +1,5 @@
 use Rattle.std.proofs.Common.{◌-◌, ap, sym, ◌∙◌, subst, arith}
-use Rattle.logical_log.specs.LogView.{LogView}
+use Rattle.tc_log.specs.LogView.{LogView}
 use Rattle.tc_core.specs.Kept.{IsTc}
 use Rattle.tc_core.specs.Opening.{opened}
 use Rattle.tc_core.specs.TcView.{TcView}

@@ -1,8 +1,8 @@
 use Rattle.std.proofs.Common.{◌+◌, ◌<◌, sym, arith, ◌∙◌}
 use Rattle.std.proofs.lemmas.Bool.Decides.{nat_tests}
-use Rattle.range_locks.specs.Meant.{range_of}
+use Rattle.tc_locks.specs.Meant.{range_of}
 use Rattle.record_key.specs.Order.{HasKeys}
-use Rattle.range_locks.specs.Locks.{IsGrantable}
+use Rattle.tc_locks.specs.Locks.{IsGrantable}
 use Rattle.tc_core.specs.declared.change.Change.TheVariants.{Reads}
 use Rattle.tc_core.specs.Changes.{shared}
 use Rattle.tc_core.specs.Seen.{seen}

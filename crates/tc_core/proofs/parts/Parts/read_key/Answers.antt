@@ -1,8 +1,8 @@
 use Rattle.std.proofs.Common.{◌+◌, ◌<◌, arith}
 use Rattle.std.proofs.lemmas.Bool.Decides.{nat_tests}
-use Rattle.range_locks.specs.declared.span.Span.TheVariants.{Key}
-use Rattle.range_locks.specs.Locks.{IsGrantable}
-use Rattle.range_locks.proofs.KeyEnds.{key_range}
+use Rattle.tc_locks.specs.declared.span.Span.TheVariants.{Key}
+use Rattle.tc_locks.specs.Locks.{IsGrantable}
+use Rattle.tc_locks.proofs.KeyEnds.{key_range}
 use Rattle.tc_core.specs.declared.change.Change.TheVariants.{Reads}
 use Rattle.tc_core.specs.Changes.{shared}
 use Rattle.tc_core.specs.Seen.{seen}

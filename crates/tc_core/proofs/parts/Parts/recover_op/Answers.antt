@@ -1,6 +1,6 @@
 use Rattle.std.proofs.Common.{◌≡◌, ℕ, false, Option, Some, None, sym, subst}
 use Rattle.std.specs.Prelude.{IfSome, IfNone}
-use Rattle.restart.specs.Redo.{FindsRequest}
+use Rattle.tc_restart.specs.Redo.{FindsRequest}
 use Rattle.tc_core.specs.declared.phase.Phase.TheVariants as phase
 use Rattle.tc_core.specs.Recovery.{SendsOp, redoing}
 use Rattle.tc_core.specs.Seen.{seen}

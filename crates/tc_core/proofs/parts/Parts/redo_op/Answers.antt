@@ -1,5 +1,5 @@
 use Rattle.std.proofs.Common.{ℕ, false, subst, arith, sym, true≢false, Option}
-use Rattle.restart.specs.Redo.{FindsRequest}
+use Rattle.tc_restart.specs.Redo.{FindsRequest}
 use Rattle.tc_core.specs.Seen.{seen}
 use Rattle.tc_core.proofs.Asking.{none_before}
 use Rattle.tc_core.proofs.KeepsLost.{keeps_redoing}

@@ -2,19 +2,19 @@ use Rattle.std.proofs.Common.{◌≡◌, ℕ, ◌≤◌, None, refl, sym, ap, su
 use Rattle.std.specs.Prelude.{◌&&◌}
 use Rattle.history.specs.Legal.{Fits}
 use Rattle.history.specs.declared.record.Record.TheVariants.{End}
-use Rattle.compensation.specs.NextUndo.{IsUndone}
+use Rattle.tc_undo.specs.NextUndo.{IsUndone}
 use Rattle.tc_core.specs.declared.change.Change.TheVariants.{IsBack}
 use Rattle.tc_core.specs.declared.open_txn.OpenTxn.{OpenTxn}
 use Rattle.tc_core.specs.declared.open_txn.Rollback.{Rollback}
 use Rattle.tc_core.specs.declared.told.UndoStep.TheVariants.{Back, RolledBack}
-use Rattle.logical_log.specs.LogView.{is_spent}
+use Rattle.tc_log.specs.LogView.{is_spent}
 use Rattle.tc_core.specs.TcView.{TcView}
 use Rattle.tc_core.specs.Kept.{IsTc}
 use Rattle.tc_core.specs.Undoing.{MayStep}
 use Rattle.tc_core.specs.Seen.{seen}
 use Rattle.tc_core.proofs.KeepsTc.{open_at, keeps_is_back}
 use Rattle.tc_core.proofs.KeepsUndo.{fits_end, keeps_end, none_left}
-use Rattle.compensation.proofs.Numbers.{fits_numbers}
+use Rattle.tc_undo.proofs.Numbers.{fits_numbers}
 use Rattle.tc_core.proofs.Refused.{happened}
 use Rattle.tc_core.proofs.UndoCauses.{makes, logs_none, unspent_and}
 use Rattle.tc_core.proofs.parts.Parts.undone.Goals as goal

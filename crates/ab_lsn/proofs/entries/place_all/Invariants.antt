@@ -1,7 +1,0 @@
-use Rattle.std.proofs.Common.{drop}
-use Rattle.ab_lsn.specs.Parting.{placed_all}
-use Rattle.ab_lsn.proofs.Placing.{IsPlacing}
-use Rattle.ab_lsn.proofs.entries.place_all.Given as goal
-
-abbrev pub invariant-loop-at : goal.invariant-loop-at
-invariant-loop-at l = IsPlacing l.low (placed_all l.low l.more l.initial.entries) (drop l.at l.more) l.entries

@@ -1,7 +1,0 @@
-use Rattle.std.proofs.Common.{◌≡◌}
-use Rattle.btree.specs.Lists.{leaves_in}
-use Rattle.btree.proofs.Raising.{raised_below}
-use Rattle.btree.proofs.boxes.raise_in.Given as goal
-
-abbrev pub invariant-loop-place : goal.invariant-loop-place
-invariant-loop-place l = leaves_in l.leaves.items ≡ raised_below l.low l.place (leaves_in l.fn.leaves.items)

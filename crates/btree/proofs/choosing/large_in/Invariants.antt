@@ -1,8 +1,0 @@
-use Rattle.btree.specs.Choosing.{first_large}
-use Rattle.btree.specs.Lists.{leaves_in}
-use Rattle.btree.proofs.Firsts.{FromPlace}
-use Rattle.btree.proofs.choosing.large_in.Given as goal
-
--- the first large leaf is among those that are left
-abbrev pub invariant-loop-place : goal.invariant-loop-place
-invariant-loop-place l = FromPlace (first_large l.known) (leaves_in l.leaves) l.place

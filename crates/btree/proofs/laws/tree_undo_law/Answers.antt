@@ -1,5 +1,0 @@
-use Rattle.btree.proofs.Taking.{all_taken, undone_among}
-use Rattle.btree.proofs.laws.tree_undo_law.Goals as goal
-
-pub returns : goal.returns
-returns c = record { steps = all_taken; undone = undone_among }

@@ -1,9 +1,0 @@
-use Rattle.std.proofs.Common.{◌≡◌, ◌+◌, ◌-◌, ◌<◌, length, take}
-use Rattle.btree.specs.Nodes.{under}
-use Rattle.btree.proofs.tree.children.node_at.Given as goal
-
-abbrev pub invariant-loop-rest : goal.invariant-loop-rest
-invariant-loop-rest l = (l.i < length l.nodes) × (l.place ≡ length (under (take l.i l.nodes)) + l.rest)
-
-abbrev pub decreases-loop-rest : goal.decreases-loop-rest
-decreases-loop-rest l = length l.nodes - l.i

@@ -1,0 +1,10 @@
+use Rattle.std.proofs.Common.{arith}
+use Rattle.dc_ab_lsn.proofs.Rising.{filtered_rises}
+use Rattle.dc_ab_lsn.proofs.Capturing.{parted_captures}
+use Rattle.dc_ab_lsn.proofs.ab_lsn.AbLsn.upper.Goals as goal
+
+pub invariant_of-result : goal.invariant_of-result
+invariant_of-result c = grind (arith, filtered_rises)
+
+pub returns-clause-captured : goal.returns-clause-captured
+returns-clause-captured c = grind (arith, parted_captures)

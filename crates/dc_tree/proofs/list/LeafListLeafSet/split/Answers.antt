@@ -1,0 +1,13 @@
+use Rattle.std.proofs.Common.{◌≡◌, true, ap, ◌∙◌}
+use Rattle.dc_tree.specs.Lists.{ListView, leaves_in}
+use Rattle.dc_tree.specs.Parting.{may_split_at}
+use Rattle.dc_tree.proofs.Stays.{split_stays}
+use Rattle.dc_tree.proofs.list.LeafListLeafSet.split.Goals as goal
+
+pub invariant_of-self : goal.invariant_of-self
+invariant_of-self c =
+    let may : may_split_at (leaves_in c.self.inside.leaves.items) c.args.place ≡ true =
+    ap (λ (l : ListView). may_split_at l.leaves c.args.place) c.self.view_is ∙ c.requires.may in
+    rw c.split_in.ensures
+    (split_stays (leaves_in c.self.inside.leaves.items) c.args.place c.args.split.right.value.id
+    c.args.split.right.value.last c.self.invariant may).leaves

@@ -1,0 +1,65 @@
+-- What is seen of a session: its number, and its part of the entries that it has seen.
+use Rattle.std.specs.Prelude.{◌≡◌, ℕ, true, Option, Some, None}
+use Rattle.std.specs.Option.{is_some}
+use Rattle.history.specs.ListMachine.{Line}
+use Rattle.node_sides.specs.node_laws.specs.declared.event.Out.{Out}
+use Rattle.boxcar.specs.Table.{Shelves}
+use Rattle.engine_marks.specs.Seen.{Seen}
+use Rattle.engine_history.specs.declared.news.News.{News}
+use Rattle.engine_history.specs.declared.news.News.TheVariants as news
+use Rattle.engine_history.specs.Errands.{EndsWithFailure, FailsSince}
+use Rattle.engine_history.specs.Slots.{Shown}
+use Rattle.engine_history.specs.Sessions.{SessionCall, Part, called_as, calls, ends, line_to, IsClosed, IsLeft, IsSameCall}
+
+-- a session's number, and its part of the journal
+pub record CallerView : Type 0 where
+  pub number : ℕ
+  pub part : Part
+
+-- the same, and what its seat has seen of the marks
+pub record SessionView : Type 0 where
+  pub number : ℕ
+  pub part : Part
+  pub seat : Seen
+
+-- the same call, of which this line was told
+abbrev pub HasLine : Option SessionCall → Option SessionCall → Line → Type 0
+HasLine None new line = ⊥
+HasLine (Some c) new line = new ≡ Some (called_as c.event c.out (Some line))
+
+-- a line was told of the latest call, by an output that tells it some transaction
+pub record IsToldBy (old new : Part) (o : Out) : Type 0 where
+  pub txn : ℕ
+  pub line : Line
+  pub tells : line_to txn o ≡ Some line
+  pub before : new.before ≡ old.before
+  pub latest : HasLine old.latest new.latest line
+  pub closed : IsClosed new
+  pub over : ends line ≡ true → new.live ≡ None
+
+-- nothing was told of the latest call
+pub record IsUntold (old new : Part) : Type 0 where
+  pub before : new.before ≡ old.before
+  pub latest : new.latest ≡ old.latest
+
+-- nothing was told of it, and its transaction is alive
+pub record Awaits (old new : Part) : Type 0 where
+  pub untold : IsUntold old new
+  pub live : new.live ≡ old.live
+  pub alive : is_some new.live ≡ true
+
+-- a session's part later on, where the session made no call: of its latest call more may have been told, unless nothing
+-- more is told of it, and more of its steps may have failed
+pub record IsGrown (old new : Part) : Type 0 where
+  pub before : new.before ≡ old.before
+  pub latest : IsSameCall old.latest new.latest
+  pub live : IsLeft old.live new.live
+  pub failures : FailsSince old.failures new.failures None
+  pub closed : IsClosed old → (calls new ≡ calls old) × IsClosed new
+
+-- what a session finds that waits for what is told of its latest call
+abbrev pub IsNews : Shelves → Part → Part → News → Type 0
+IsNews row old new (news.Line p) = Shown row p × IsToldBy old new p.value.step.value.out
+IsNews row old new news.CutOff = IsUntold old new × (new.live ≡ None)
+IsNews row old new (news.Refused f) = Awaits old new × EndsWithFailure old.failures new.failures f
+IsNews row old new news.Nothing = Awaits old new × FailsSince old.failures new.failures None

@@ -1,0 +1,69 @@
+-- What an engine is made of before it has a name.
+use Rattle.std.specs.Prelude.{◌≡◌, ℕ, ◌+◌, zero, suc, List, [], ◌∷◌, Some, length, slice_get, map}
+use Rattle.std.specs.List.{AllByRecursion}
+use Rattle.atomic_table.specs.Seated.{TableId}
+use Rattle.boxcar.specs.Table.{Shelves}
+use Rattle.engine_marks.specs.Seen.{Seen, raiser, reader}
+use Rattle.engine_workers.specs.declared.opened.Chair.{Chair}
+use Rattle.engine_sessions.specs.engine_history.specs.Steps.{Start, IsStart}
+
+-- the components with which it begins, its row, its marks, and the names of its ties: of each component, of the engine
+-- itself, and of each session
+pub record OpenedView : Type 0 where
+  pub start : Start
+  pub entries : Shelves
+  pub marks : TableId
+  pub tc : ℕ
+  pub dc : ℕ
+  pub own : ℕ
+  pub sessions : List ℕ
+
+abbrev pub ties_of : List Chair → List ℕ
+ties_of chairs = map (λ (c : Chair). c.ends) chairs
+
+abbrev pub opened_as : Start → Shelves → TableId → ℕ → ℕ → ℕ → List Chair → OpenedView
+opened_as start row marks tc dc own chairs = record {
+  start = start;
+  entries = row;
+  marks = marks;
+  tc = tc;
+  dc = dc;
+  own = own;
+  sessions = ties_of chairs;
+}
+
+-- its seat reads these marks, and has seen nothing of them
+abbrev pub ReadsMarks : TableId → Chair → Type 0
+ReadsMarks marks chair = chair.seat ≡ reader marks 0 0
+
+-- nobody has raised the marks, and a journal may begin with the components
+pub record IsOpenedWith (marks : TableId) (seat : Seen) (chairs : List Chair) (start : Start) : Type 0 where
+  pub raises : seat ≡ raiser marks 0 0
+  pub reads : AllByRecursion (ReadsMarks marks) chairs
+  pub starts : IsStart start
+
+-- the ties of the sessions have these names
+abbrev pub AreTied : (ℕ → ℕ) → List ℕ → Type 0
+AreTied names sessions = (k n : ℕ) → slice_get sessions k ≡ Some n → n ≡ names (k + 3)
+
+-- it goes by these names
+pub record IsNamed (o : OpenedView) (start : Start) (entries : Shelves) (marks : TableId) (names : ℕ → ℕ) (sessions : ℕ)
+    : Type 0 where
+  pub start_is : o.start ≡ start
+  pub row : o.entries ≡ entries
+  pub marks_are : o.marks ≡ marks
+  pub tc : o.tc ≡ names 0
+  pub dc : o.dc ≡ names 1
+  pub own : o.own ≡ names 2
+  pub tied : AreTied names o.sessions
+  pub count : length o.sessions ≡ sessions
+
+-- the name at a place, where there is one
+abbrev pub name_at : List ℕ → ℕ → ℕ
+name_at [] k = 0
+name_at (n ∷ ns) zero = n
+name_at (n ∷ ns) (suc k) = name_at ns k
+
+-- the name of each tie: of the components first, then of the engine itself, then of the sessions
+abbrev pub tie_name : OpenedView → ℕ → ℕ
+tie_name o k = name_at (o.tc ∷ o.dc ∷ o.own ∷ o.sessions) k

@@ -1,5 +1,0 @@
-use Rattle.log_rewriting.proofs.Alone.{row_writes}
-use Rattle.log_rewriting.proofs.laws.insert_law.Goals as goal
-
-pub returns : goal.returns
-returns c = row_writes

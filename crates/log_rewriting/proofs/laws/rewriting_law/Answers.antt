@@ -1,5 +1,0 @@
-use Rattle.log_rewriting.proofs.Tables.{rewriting_keeps}
-use Rattle.log_rewriting.proofs.laws.rewriting_law.Goals as goal
-
-pub returns : goal.returns
-returns c = rewriting_keeps

@@ -1,5 +1,0 @@
-use Rattle.log_rewriting.proofs.Rows.{writes_are_right}
-use Rattle.log_rewriting.proofs.laws.writing_law.Goals as goal
-
-pub returns : goal.returns
-returns c = writes_are_right

@@ -1,8 +1,0 @@
-pub mod Answering
-pub mod Ending
-pub mod Beginning
-pub mod Sessions
-pub mod Opened
-pub mod Engines
--- what a crate above names of those below
-pub use Rattle.node_monitor as node_monitor

@@ -1,6 +1,0 @@
-use Rattle.node_monitor.specs.Running.{GoesOn}
-use Rattle.node_monitor.proofs.guarded.Guarded.tend.Given as goal
-
--- no call was made so far
-abbrev pub invariant-loop : goal.invariant-loop
-invariant-loop g l = GoesOn l.fn.self.steps l.self.steps

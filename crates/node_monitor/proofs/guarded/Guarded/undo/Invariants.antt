@@ -1,8 +1,0 @@
-use Rattle.node_monitor.specs.Running.{GoesOn}
-use Rattle.node_monitor.proofs.guarded.Guarded.undo.Given as goal
-
--- no call was made so far
-abbrev pub invariant-loop : goal.invariant-loop
-invariant-loop g l =
-    GoesOn l.initial.self.steps l.self.steps × (goal.iterator-loop g).can_next l.iterator'
-    × (goal.iterator-loop g).is_finite l.iterator'

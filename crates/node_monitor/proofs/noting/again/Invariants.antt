@@ -1,4 +1,0 @@
-use Rattle.node_monitor.proofs.noting.again.Given as goal
-
-abbrev pub ghost-picked : goal.ghost-picked
-ghost-picked a = a.a.now.items

@@ -1,9 +1,0 @@
-use Rattle.std.specs.Io.KnownBytes.{Appends}
-use Rattle.node_shell.specs.Logged.{lines_to}
-use Rattle.node_shell.specs.View.{log_shown}
-use Rattle.node_shell.proofs.shown.print_records.Given as goal
-
--- the records so far are written
-abbrev pub invariant-loop-before : goal.invariant-loop-before
-invariant-loop-before g l =
-    Appends (g.W.Write.contents l.initial.writer) (g.W.Write.contents l.writer) (lines_to (log_shown l.world) l.before)

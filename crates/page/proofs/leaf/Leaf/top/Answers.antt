@@ -1,5 +1,0 @@
-use Rattle.ab_lsn.proofs.Rising.{rises}
-use Rattle.page.proofs.leaf.Leaf.top.Goals as goal
-
-pub top-requires : goal.top-requires
-top-requires c = rw c.entries.ensures.entries (rises _ _ c.entries.ensures.rising)

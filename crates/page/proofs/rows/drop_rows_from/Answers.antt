@@ -1,9 +1,0 @@
-use Rattle.std.proofs.Common.{◌∙◌}
-use Rattle.page.proofs.Ranges.{parts_of}
-use Rattle.page.proofs.rows.drop_rows_from.Goals as goal
-
-pub returns : goal.returns
-returns c =
-    c.truncate.ensures
-    ∙ (parts_of c.args.key.now c.args.rows.now.rows c.start_of-start.result c.requires
-    (rw c.lent.ensures at c.start_of-start.ensures.start)).under

@@ -1,8 +1,0 @@
-use Rattle.std.proofs.Common.{◌∙◌}
-use Rattle.page.proofs.Ranges.{parts_of}
-use Rattle.page.proofs.rows.rows_below.Goals as goal
-
-pub returns : goal.returns
-returns c =
-    c.before-under.ensures
-    ∙ (parts_of c.args.key.now c.args.rows.now c.start_of.result c.requires c.start_of.ensures.start).under

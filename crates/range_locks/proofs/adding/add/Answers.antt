@@ -1,6 +1,0 @@
-use Rattle.std.proofs.Common.{arith}
-use Rattle.range_locks.proofs.Keeping.{pushed_alone}
-use Rattle.range_locks.proofs.adding.add.Goals as goal
-
-pub returns-in-None-clause-kept : goal.returns-in-None-clause-kept
-returns-in-None-clause-kept c = grind (arith, pushed_alone)

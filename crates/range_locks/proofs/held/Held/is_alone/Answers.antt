@@ -1,6 +1,0 @@
-use Rattle.std.proofs.Common.{arith}
-use Rattle.range_locks.proofs.Leaving.{alone}
-use Rattle.range_locks.proofs.held.Held.is_alone.Goals as goal
-
-pub returns-in-1 : goal.returns-in-1
-returns-in-1 c some u other = grind (arith, alone)

@@ -1,6 +1,0 @@
-use Rattle.std.proofs.Common.{arith}
-use Rattle.range_locks.proofs.Indexing.{released_index}
-use Rattle.range_locks.proofs.range_locks.RangeLocks.release.Goals as goal
-
-pub invariant_of-self-in-Some-index : goal.invariant_of-self-in-Some-index
-invariant_of-self-in-Some-index c = grind (arith, released_index)

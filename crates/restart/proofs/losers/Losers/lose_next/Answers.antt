@@ -1,6 +1,0 @@
-use Rattle.std.proofs.Common.{subst}
-use Rattle.restart.specs.Losers.{LosersView, FindsNext}
-use Rattle.restart.proofs.losers.Losers.lose_next.Goals as goal
-
-pub returns : goal.returns
-returns c = subst (λ (l : LosersView). FindsNext l c.lose_next.result) c.self.view_is c.lose_next.ensures

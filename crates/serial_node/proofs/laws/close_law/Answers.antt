@@ -1,5 +1,0 @@
-use Rattle.serial_node.proofs.Leading.{close_is_serial, left_is_serial}
-use Rattle.serial_node.proofs.laws.close_law.Goals as goal
-
-pub returns : goal.returns
-returns c = record { run = close_is_serial; left = left_is_serial }

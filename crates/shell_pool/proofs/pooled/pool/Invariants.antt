@@ -1,0 +1,13 @@
+use Rattle.std.proofs.Common.{length}
+use Rattle.engine_workers.specs.Opened.{tie_name}
+use Rattle.shell_pool.proofs.pooled.pool.Given as goal
+
+-- the engine's names are those of what was just opened
+abbrev pub ghosts-run_opened : goal.ghosts-run_opened
+ghosts-run_opened g a = record {
+  start = a.opened.start;
+  entries = a.opened.entries;
+  marks = a.opened.marks;
+  names = tie_name a.opened;
+  sessions = length a.opened.sessions;
+}

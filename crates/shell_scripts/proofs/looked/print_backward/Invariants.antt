@@ -1,0 +1,15 @@
+use Rattle.std.proofs.Common.{length}
+use Rattle.record_key.specs.Rows.{Row}
+use Rattle.row_ranges.specs.Backward.{left}
+use Rattle.shell_scripts.specs.Stored.{row_line}
+use Rattle.shell_scripts.proofs.Printing.{PrintsSoFar}
+use Rattle.shell_scripts.proofs.looked.print_backward.Given as goal
+
+-- those that were read are written
+abbrev pub invariant-loop-row : goal.invariant-loop-row
+invariant-loop-row g l =
+    PrintsSoFar Row row_line (g.W.Write.contents l.initial.writer) (g.W.Write.contents l.writer) (left l.initial.rows)
+    (left l.rows)
+
+abbrev pub decreases-loop-row : goal.decreases-loop-row
+decreases-loop-row g l = length (left l.rows)

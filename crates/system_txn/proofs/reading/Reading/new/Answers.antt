@@ -1,6 +1,0 @@
-use Rattle.std.proofs.Common.{refl}
-use Rattle.system_txn.proofs.HasRead.{reading_nothing}
-use Rattle.system_txn.proofs.reading.Reading.new.Goals as goal
-
-pub returns : goal.returns
-returns c = reading_nothing _ c.new.ensures.items c.new-2.ensures.items refl c.in_ok-new.ensures

@@ -1,5 +1,0 @@
-use Rattle.system_txn.proofs.KeepsLeaves.{keeps_lowered}
-use Rattle.system_txn.proofs.system.SystemTxns.lower.Goals as goal
-
-pub invariant_of-self : goal.invariant_of-self
-invariant_of-self g c = rw c.raise.ensures.raised (keeps_lowered _ c.args.low c.requires c.self.invariant)

@@ -1,0 +1,5 @@
+use Rattle.engine_workers.proofs.Opening.{named_as}
+use Rattle.test_pool.proofs.running.run.Goals as goal
+
+pub run_opened-requires-clause-named : goal.run_opened-requires-clause-named
+run_opened-requires-clause-named g c κs within = named_as c.in_ok-opened.opened

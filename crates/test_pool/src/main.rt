@@ -1,0 +1,105 @@
+//! Cases of an engine whose clients are threads.
+//!
+//! Knows: the public calls of an engine and its sessions, what each call of its data is to be answered, and the plain
+//! model of a node's clients.
+//! Must not know: how an engine serves its clients.
+//! Promises its reader to print how many cases agree, the names of those that differ, and how many gave up since they
+//! were refused memory themselves. What a client is told is compared with what is written out or with the plain model,
+//! and what clients noted with the engine's journal. A call that is refused memory is carried on, or made again, and has
+//! to be answered like any other then.
+#![tactic(auto)]
+
+mod going_on;
+mod running;
+mod tally;
+mod threads;
+
+use engine_workers::Opened;
+use record_key::Refusal;
+use running::{Case, run_case};
+use std::alloc::Global;
+use std::sync::Wait;
+use std::thread::Threads;
+use std::{fs, io};
+use tally::Tally;
+use test_pool_cases::{Many, Table, Verdict};
+
+fn main(rt: HostRuntime) -> io::Result<()> {
+    let alloc = rt.alloc();
+    let tables = fs::read_to_string(&rt, "tables.txt")?;
+    let plans = fs::read_to_string(&rt, "plans.txt")?;
+    let mut tally = Tally::new(alloc);
+    run_tables(rt, alloc, tables.as_str(), &mut tally);
+    run_plans(rt, alloc, plans.as_str(), &mut tally);
+    tally.count("nine_sessions", refuses_nine(alloc));
+    tally.report(&rt)
+}
+
+// Whether a case is written there, and not something for the reader alone.
+fn is_case(text: &str) -> bool {
+    !text.is_empty() && !text.starts_with('#')
+}
+
+// The first word.
+fn name_of(text: &str) -> &str {
+    match text.split_once(' ') {
+        Some((name, _)) => name,
+        None => text,
+    }
+}
+
+// Runs the cases that are written out, each a block of lines.
+fn run_tables<R>(rt: R, alloc: Global, text: &str, tally: &mut Tally)
+where
+    R: Threads + Wait + Copy + Send + 'static,
+{
+    for block in text.split("\n\n") {
+        let block = block.trim();
+        if is_case(block) {
+            tally.count(name_of(block), run_table(rt, alloc, block));
+        }
+    }
+}
+
+fn run_table<R>(rt: R, alloc: Global, block: &str) -> Verdict
+where
+    R: Threads + Wait + Copy + Send + 'static,
+{
+    run_case(rt, alloc, Case::Table(Table::read(alloc, block)?))
+}
+
+// Runs the cases whose calls are drawn, each a line.
+fn run_plans<R>(rt: R, alloc: Global, text: &str, tally: &mut Tally)
+where
+    R: Threads + Wait + Copy + Send + 'static,
+{
+    for line in text.lines() {
+        if is_case(line) {
+            tally.count(name_of(line), run_plan(rt, alloc, line));
+        }
+    }
+}
+
+fn run_plan<R>(rt: R, alloc: Global, line: &str) -> Verdict
+where
+    R: Threads + Wait + Copy + Send + 'static,
+{
+    run_case(rt, alloc, Case::Many(Many::read(alloc, line)?))
+}
+
+// An engine has at most eight sessions.
+fn refuses_nine(alloc: Global) -> Verdict {
+    match opens(alloc, 9) {
+        Err(Refusal::Full) => opens(alloc, 8),
+        Ok(_) => Ok(false),
+        refusal => refusal,
+    }
+}
+
+// Whether one of so many sessions is made.
+fn opens(alloc: Global, sessions: usize) -> Verdict {
+    match Opened::new(alloc, sessions) {
+        Ok(_) => Ok(true),
+        Err(refusal) => Err(refusal),
+    }
+}
