@@ -15,7 +15,7 @@ use Rattle.clap.specs.declared.builder.value_parser.ValueParser.TheVariants.{Uns
 use Rattle.clap.proofs.ValueTestLemmas.{accepts-Accepts}
 use Rattle.clap.proofs.OnLiterals.{clap_on_literals}
 use Rattle.shell_command_line.proofs.Options.{HasOption, HasValue, IsKnown, IsRequest, both_none, level_has_value, level_may_have_value}
-use Rattle.shell_command_line.specs.CommandLine.{at, shell_command_line, counting, last, locks, numbering, rounds, sessions}
+use Rattle.shell_command_line.specs.CommandLine.{at, command_line, counting, last, locks, numbering, rounds, sessions}
 use Rattle.shell_command_line.specs.Asked.{MayAskFor, MayCount, NamesCount, most_number}
 
 -- ---- a call for help is never taken
@@ -104,7 +104,7 @@ module _ (s : Shape) (helps : s.disable_help_subcommand ≡ false) (names : Name
 -- ---- the program
 
 abbrev line : App
-line = built shell_command_line
+line = built command_line
 
 abbrev shape_in : ℕ → List Shape → Shape
 shape_in n [] = line.top
@@ -302,7 +302,7 @@ stop_taken (Some p) apart e some =
     go false false false false false false false false false false false false asks e some = absurd (cc some)
 
 -- words without a fault name a subcommand that is taken
-pub words_taken : (words : List Text) → fault_of shell_command_line words ≡ [] → MayAskFor (subcommand_of shell_command_line words)
+pub words_taken : (words : List Text) → fault_of command_line words ≡ [] → MayAskFor (subcommand_of command_line words)
 words_taken words none =
     let given = argument_words line words in
     let end = walk line.top.rules (names_of line) nothing_held given in

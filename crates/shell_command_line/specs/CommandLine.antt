@@ -155,8 +155,8 @@ of_stores = with_subcommand (with_subcommand
     (with_subcommand (with_subcommand (with_subcommand of_scripts compact.top) check.top) dump.top) load.top) stat.top
 
 -- the program and all that it may be told: also to be one half of a node
-abbrev pub shell_command_line : App
-shell_command_line = with_subcommand (with_subcommand of_stores dc.top) tc.top
+abbrev pub command_line : App
+command_line = with_subcommand (with_subcommand of_stores dc.top) tc.top
 
 -- what it may be told to do
 abbrev pub subcommands : List Shape

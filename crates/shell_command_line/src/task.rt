@@ -7,7 +7,7 @@ ghost use Rattle.clap.specs.Matches.{found_of};
 ghost use Rattle.clap.specs.Simple.{app_of, shape_of, subcommand_of, subcommand_rows_of};
 ghost use Rattle.clap.specs.Walk.{rows_of, rule_of};
 ghost use Rattle.shell_command_line.specs.Asked.{AsksFor, HasClient, IsGivenCount, IsGivenNumber, MayAskFor, MayCount, NamesCount};
-ghost use Rattle.shell_command_line.specs.CommandLine.{IsLocal, check, shell_command_line, compact, counting, dc, draw, dump, explain, flag_option, halves, load, naming, numbering, on_store, plain_run, pool, run, stat, subcommands, tc};
+ghost use Rattle.shell_command_line.specs.CommandLine.{IsLocal, check, command_line, compact, counting, dc, draw, dump, explain, flag_option, halves, load, naming, numbering, on_store, plain_run, pool, run, stat, subcommands, tc};
 
 use crate::help::{
     CHECKED, CLIENTS, COMPACTED, CONTINUING, CREATING, DRAWN, DUMPED, EXPLAINED, INTERACTIVE,
@@ -90,11 +90,11 @@ const MOST_NUMBER: u64 = (1 << 48) - 1;
 /// What these words ask for, the first of them the program's name. Refused just where they have a fault or ask for
 /// help, with the kind of that, or where memory runs out.
 pub fn choose<'a, S: AsStr>(alloc: Global, words: &'a [S]) -> Result<Task<'a>, Error>
-    ensures task { IfOk result (AsksFor (subcommand_of shell_command_line (map S.text words.now))) }
+    ensures task { IfOk result (AsksFor (subcommand_of command_line (map S.text words.now))) }
     ensures client { IfOk result HasClient }
-    ensures fault { FailsBy (fault_of shell_command_line (map S.text words.now)) result }
+    ensures fault { FailsBy (fault_of command_line (map S.text words.now)) result }
 {
-    match shell_command_line(alloc)?.try_get_matches_from(words) {
+    match command_line(alloc)?.try_get_matches_from(words) {
         Ok(matches) => Ok(task_of(&matches)),
         Err(fault) => Err(fault),
     }
@@ -197,8 +197,8 @@ fn number_if(asked: &ArgMatches<'_>, option: &str) -> Option<u64>
 }
 
 /// The program and its subcommands.
-fn shell_command_line<'a>(alloc: Global) -> Result<Command<'a>, AllocError>
-    ensures { IfOk result (λ program. app_of program ≡ shell_command_line) }
+fn command_line<'a>(alloc: Global) -> Result<Command<'a>, AllocError>
+    ensures { IfOk result (λ program. app_of program ≡ command_line) }
 {
     let subcommands = subcommands(alloc)?;
     let halves = halves(alloc)?;

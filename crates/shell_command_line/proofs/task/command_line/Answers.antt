@@ -3,7 +3,7 @@ use Rattle.std.proofs.lemmas.Result.{IfOk-weaker}
 use Rattle.clap.specs.Simple.{app_of}
 use Rattle.shell_command_line.specs.CommandLine.{of_stores, program}
 use Rattle.shell_command_line.proofs.Adding.{added_all, with_all}
-use Rattle.shell_command_line.proofs.task.shell_command_line.Goals as goal
+use Rattle.shell_command_line.proofs.task.command_line.Goals as goal
 
 pub returns : goal.returns
 returns c =
