@@ -1,4 +1,4 @@
--- The ends of a tie name no thread's key, so they may go to another thread.
+-- The ends of an agreement name no thread's key, so they may go to another thread.
 use mathlib.Core.List.{List, [], ◌∷◌}
 use Prim.Native.Nat.{ℕ, zero, suc}
 use base.Shift.{Keyless}

@@ -4,7 +4,7 @@
 
 ghost use Rattle.std.specs.Prelude.{◌≡◌, ℕ, ◌+◌, ◌≤◌};
 ghost use Rattle.core.specs.Sync.Ledger.{book_owns, share_owns};
-ghost use Rattle.engine_agreement.specs.Tied.{tied_at};
+ghost use Rattle.engine_agreement.specs.Agreed.{agreed_at};
 
 use std::marker::{Model, PhantomData};
 
@@ -31,7 +31,7 @@ impl Model for Near {
 }
 
 // Two ends of one name, at 0.
-fn tied() -> (Far, Near)
+fn both_ends() -> (Far, Near)
     ensures name { result.0.name ≡ result.1.name }
     ensures far { result.0.value ≡ 0 }
     ensures near { result.1.value ≡ 0 }
@@ -93,18 +93,18 @@ unsafe impl Send for Far {}
 
 unsafe impl Send for Near {}
 
-/// A number beside the record of the whole, tied to a mark under another lock.
+/// A number beside the record of the whole, that agrees with a mark under another lock.
 #[derive(Drop)]
-pub struct Book {
+pub struct FarEnd {
     number: u64,
     far: Far,
 }
 
-impl Model for Book {
+impl Model for FarEnd {
     ghost use Rattle.std.specs.Prelude.{◌≡◌};
-    ghost use Rattle.engine_agreement.specs.Tied.{Tied};
+    ghost use Rattle.engine_agreement.specs.Agreed.{Agreed};
 
-    ghost Value = { Tied };
+    ghost Value = { Agreed };
 
     ghost view = { λ b. record { name = b.far.name; number = b.number } };
 
@@ -120,23 +120,23 @@ pub struct Mark {
 
 impl Model for Mark {
     ghost use Rattle.std.specs.Prelude.{◌≡◌};
-    ghost use Rattle.engine_agreement.specs.Tied.{Tied};
+    ghost use Rattle.engine_agreement.specs.Agreed.{Agreed};
 
-    ghost Value = { Tied };
+    ghost Value = { Agreed };
 
     ghost view = { λ m. record { name = m.near.name; number = m.number } };
 
     ghost invariant = { λ m. m.near.value ≡ m.number };
 }
 
-impl Book {
-    /// A book and its mark, at 0.
-    pub fn open() -> (Book, Mark)
-        ensures book { result.0.number ≡ 0 }
+impl FarEnd {
+    /// A far end and its mark, at 0.
+    pub fn open() -> (FarEnd, Mark)
+        ensures far_end { result.0.number ≡ 0 }
         ensures mark { result.1 ≡ result.0 }
     {
-        let (far, near) = tied();
-        (Book { number: 0, far }, Mark { number: 0, near })
+        let (far, near) = both_ends();
+        (FarEnd { number: 0, far }, Mark { number: 0, near })
     }
 
     pub fn number(&self) -> u64
@@ -149,10 +149,10 @@ impl Book {
     pub fn agree(&mut self, mark: &mut Mark)
         requires name { self.old.name ≡ mark.old.name }
         ensures agree { self.old ≡ mark.old }
-        ensures book { self.new ≡ self.old }
+        ensures far_end { self.new ≡ self.old }
         ensures mark { mark.new ≡ mark.old }
     {
-        let Book { number: _, far } = self;
+        let FarEnd { number: _, far } = self;
         let Mark { number: _, near } = mark;
         agree(far, near);
     }
@@ -161,10 +161,10 @@ impl Book {
     pub fn set(&mut self, mark: &mut Mark, to: u64)
         requires name { self.old.name ≡ mark.old.name }
         ensures agree { self.old ≡ mark.old }
-        ensures book { self.new ≡ tied_at self.old.name to }
-        ensures mark { mark.new ≡ tied_at mark.old.name to }
+        ensures far_end { self.new ≡ agreed_at self.old.name to }
+        ensures mark { mark.new ≡ agreed_at mark.old.name to }
     {
-        let Book { number, far } = self;
+        let FarEnd { number, far } = self;
         let Mark {
             number: beside,
             near,

@@ -7,7 +7,7 @@ use Rattle.engine_history.specs.node_laws.specs.declared.event.Event.{Event}
 use Rattle.engine_history.specs.node_laws.specs.declared.event.Event.TheVariants as event
 use Rattle.engine_history.specs.node_laws.specs.declared.event.Out.{Out}
 use Rattle.engine_history.specs.Callers.{HasLine}
-use Rattle.engine_history.specs.Sessions.{SessionCall, Part, called_as, calls, is_pending, line_to, pending, with_latest}
+use Rattle.engine_history.specs.Sessions.{SessionCall, SessionCalls, called_as, call_list, is_pending, line_to, pending, with_latest}
 use Rattle.engine_history.specs.Slots.{Slot}
 use Rattle.engine_answers.proofs.Telling.{commits, given_as_told, one_line}
 use Rattle.engine_answers.specs.Again.{CarriesOn, IsAnswerTo, AnswersWith, IsNotTold, IsToldSo, RefusedAgain, Resumes}
@@ -44,13 +44,13 @@ answers (event.Commit u) o t l line (told.Committed n) is (logged, tells) = (log
 answers _ o t l line _ is given = absurd given
 
 -- the list, of which the latest call has this line
-listed : (old new : Part) (c : SessionCall) → new.before ≡ old.before → new.latest ≡ Some c
-    → calls new ≡ old.before ++ c ∷ []
+listed : (old new : SessionCalls) (c : SessionCall) → new.before ≡ old.before → new.latest ≡ Some c
+    → call_list new ≡ old.before ++ c ∷ []
 listed old new c before latest i = with_latest (before i) (latest i)
 
-pub carries_on : (row : Shelves) (old new : Part) (how : Ended) (a : Told) → Resumes row old how new → IsToldSo how a
+pub carries_on : (entries : Shelves) (old new : SessionCalls) (how : Ended) (a : Told) → Resumes entries old how new → IsToldSo how a
     → CarriesOn old a new
-carries_on row old new (ended.Told p q) a (s, s_shown, was, unfinished, (p_shown, is, q_shown, pends, by)) given =
+carries_on entries old new (ended.Told p q) a (s, s_shown, was, unfinished, (p_shown, is, q_shown, pends, by)) given =
     let now : old.latest ≡ Some (call_in p) = was ∙ ap (λ (x : Slot). Some (call_in x)) (sym is) in
     record {
       unfinished = unfinished;
@@ -63,9 +63,9 @@ carries_on row old new (ended.Told p q) a (s, s_shown, was, unfinished, (p_shown
           (subst (λ (o : Option SessionCall). HasLine o new.latest by.line) now by.latest);
       over = by.over;
     }
-carries_on row old new (ended.AtOnce p) a resumes given = absurd given
-carries_on row old new (ended.Unfinished u f) a resumes given = absurd given
-carries_on row old new ended.CutOff a resumes given = absurd given
+carries_on entries old new (ended.AtOnce p) a resumes given = absurd given
+carries_on entries old new (ended.Unfinished u f) a resumes given = absurd given
+carries_on entries old new ended.CutOff a resumes given = absurd given
 
 -- a call that is to be told of isn't answered by its entry
 pends_of : (s : Slot) (latest : Option SessionCall) → latest ≡ Some (call_in s) → pending latest ≡ true
@@ -80,11 +80,11 @@ not_answered : (e : Event) (o : Out) (line : Option Line) → is_pending o ≡ t
     → is_answered (called_as e o line) ≡ false
 not_answered e o line pends isnt = ap (λ (b : Bool). cond b (is_told e o line) (is_done e o)) pends ∙ isnt
 
-pub refused_again : (row : Shelves) (old new : Part) (how : Ended) (r : Refusal) → Resumes row old how new
+pub refused_again : (entries : Shelves) (old new : SessionCalls) (how : Ended) (r : Refusal) → Resumes entries old how new
     → IsNotTold how r → RefusedAgain old r new
-refused_again row old new (ended.AtOnce p) r (s, s_shown, was, unfinished, (p_shown, is, done, still)) isnt =
+refused_again entries old new (ended.AtOnce p) r (s, s_shown, was, unfinished, (p_shown, is, done, still)) isnt =
     absurd (cc (sym done ∙ pends_of s old.latest was unfinished.0))
-refused_again row old new (ended.Told p q) r (s, s_shown, was, unfinished, (p_shown, is, q_shown, pends, by)) (why, isnt) =
+refused_again entries old new (ended.Told p q) r (s, s_shown, was, unfinished, (p_shown, is, q_shown, pends, by)) (why, isnt) =
     let now : old.latest ≡ Some (call_in p) = was ∙ ap (λ (x : Slot). Some (call_in x)) (sym is) in
     let awaited : is_pending (out_of p) ≡ true = ap (λ (x : Slot). is_pending (out_of x)) is ∙ pends in
     inr (inr (
@@ -103,7 +103,7 @@ refused_again row old new (ended.Told p q) r (s, s_shown, was, unfinished, (p_sh
         cut = λ none. absurd (cc (none));
       },
     ))
-refused_again row old new (ended.Unfinished u f) r (s, s_shown, was, unfinished, (is, pends, waits, failed)) why =
+refused_again entries old new (ended.Unfinished u f) r (s, s_shown, was, unfinished, (is, pends, waits, failed)) why =
     inr (inl record {
       unfinished = unfinished;
       failure = f;
@@ -112,7 +112,7 @@ refused_again row old new (ended.Unfinished u f) r (s, s_shown, was, unfinished,
       same = λ i. with_latest (waits.untold.before i) (waits.untold.latest i);
       still = waits.live;
     })
-refused_again row old new ended.CutOff r (s, s_shown, was, unfinished, (pends, gone, untold)) why =
+refused_again entries old new ended.CutOff r (s, s_shown, was, unfinished, (pends, gone, untold)) why =
     inr (inr (
       why,
       unfinished,

@@ -6,7 +6,7 @@ use Rattle.engine_history.specs.node_laws.specs.declared.event.Event.{Event}
 use Rattle.engine_history.specs.node_laws.specs.declared.event.Event.TheVariants as event
 use Rattle.engine_history.specs.node_laws.specs.declared.event.Out.{Out}
 use Rattle.engine_history.specs.node_laws.specs.declared.event.Out.TheVariants as out
-use Rattle.engine_history.specs.Errands.{is_commit_logged}
+use Rattle.engine_history.specs.InFlightCalls.{is_commit_logged}
 use Rattle.engine_history.specs.Sessions.{line_to, only_if}
 use Rattle.engine_answers.specs.Again.{answers_with}
 use Rattle.engine_answers.specs.Answers.{TellsCommit}

@@ -8,9 +8,9 @@ use Rattle.engine_history.specs.node_laws.specs.declared.event.Event.{Event}
 use Rattle.engine_history.specs.node_laws.specs.declared.event.Event.TheVariants as event
 use Rattle.engine_history.specs.node_laws.specs.declared.event.Out.{Out}
 use Rattle.engine_history.specs.node_laws.specs.declared.event.Out.TheVariants as out
-use Rattle.engine_history.specs.Errands.{EndsWithFailure, is_commit_logged}
+use Rattle.engine_history.specs.InFlightCalls.{EndsWithFailure, is_commit_logged}
 use Rattle.engine_history.specs.Failing.{refusal_of}
-use Rattle.engine_history.specs.Sessions.{SessionCall, Part, called_as, calls, IsClosed}
+use Rattle.engine_history.specs.Sessions.{SessionCall, SessionCalls, called_as, call_list, IsClosed}
 use Rattle.engine_history.specs.Slots.{Slot, Shown}
 use Rattle.engine_history.specs.Steps.{Start}
 use Rattle.engine_history.specs.Witnessed.{WasStable}
@@ -56,9 +56,9 @@ answers_with (event.Commit t) o l = both (is_commit_logged o) (gives_commit l)
 answers_with _ o l = false
 
 -- how an unfinished call went on
-abbrev pub Resumes : Shelves → Part → Ended → Part → Type 0
-Resumes row old how new =
-    (p : Slot) × Shown row p × (old.latest ≡ Some (call_in p)) × IsUnfinished old × Finishes row p old how new
+abbrev pub Resumes : Shelves → SessionCalls → Ended → SessionCalls → Type 0
+Resumes entries old how new =
+    (p : Slot) × Shown entries p × (old.latest ≡ Some (call_in p)) × IsUnfinished old × Finishes entries p old how new
 
 abbrev pub IsToldSo : Ended → Told → Type 0
 IsToldSo (ended.Told p q) t =
@@ -75,13 +75,13 @@ IsNotTold ended.CutOff r = r ≡ NotConnected
 -- ---- what the session's list shows of it
 
 -- the unfinished call has got its line, and that answers it so
-pub record CarriesOn (old : Part) (t : Told) (new : Part) : Type 0 where
+pub record CarriesOn (old : SessionCalls) (t : Told) (new : SessionCalls) : Type 0 where
   pub unfinished : IsUnfinished old
   pub call : SessionCall
   pub was : old.latest ≡ Some call
   pub line : Line
   pub answers : IsAnswerTo call.event call.out line t
-  pub list : calls new ≡ old.before ++ called_as call.event call.out (Some line) ∷ []
+  pub list : call_list new ≡ old.before ++ called_as call.event call.out (Some line) ∷ []
   pub over : EndsLive line new
 
 -- a commit that was told was seen to be stable
@@ -90,27 +90,27 @@ IsSeenBy stable t = (n : ℕ) → t ≡ told.Committed n → n ≤ stable
 
 -- the log was stable up to the record of a commit that was told
 abbrev pub IsStableAt : Start → Shelves → Told → Type 0
-IsStableAt start row t = (n : ℕ) → t ≡ told.Committed n → WasStable start row n
+IsStableAt start entries t = (n : ℕ) → t ≡ told.Committed n → WasStable start entries n
 
 -- nothing more is told of the call: a line was told of it that doesn't answer it, or a crash has cut it off
-pub record IsLost (old new : Part) : Type 0 where
+pub record IsLost (old new : SessionCalls) : Type 0 where
   pub call : SessionCall
   pub was : old.latest ≡ Some call
   pub line : Option Line
-  pub list : calls new ≡ old.before ++ called_as call.event call.out line ∷ []
+  pub list : call_list new ≡ old.before ++ called_as call.event call.out line ∷ []
   pub unanswered : is_answered (called_as call.event call.out line) ≡ false
   pub cut : line ≡ None → new.live ≡ None
 
 -- another step that was made for the call failed: it is unfinished still
-pub record IsHeldUp (old : Part) (r : Refusal) (new : Part) : Type 0 where
+pub record IsHeldUp (old : SessionCalls) (r : Refusal) (new : SessionCalls) : Type 0 where
   pub unfinished : IsUnfinished old
   pub failure : Failure
   pub failed : EndsWithFailure old.failures new.failures failure
   pub why : r ≡ refusal_of failure
-  pub same : calls new ≡ calls old
+  pub same : call_list new ≡ call_list old
   pub still : new.live ≡ old.live
 
-abbrev pub RefusedAgain : Part → Refusal → Part → Type 0
+abbrev pub RefusedAgain : SessionCalls → Refusal → SessionCalls → Type 0
 RefusedAgain old r new =
     ((r ≡ Unsent) × IsClosed old × (new ≡ old)) ⊎ (IsHeldUp old r new
     ⊎ ((r ≡ NotConnected) × IsUnfinished old × IsLost old new))

@@ -12,61 +12,61 @@ use Rattle.boxcar.specs.Table.{Shelves}
 use Rattle.engine_answers.specs.declared.ended.Ended.{Ended}
 use Rattle.engine_answers.specs.declared.ended.Ended.TheVariants as ended
 use Rattle.engine_answers.specs.Asking.{is_answered}
-use Rattle.engine_history.specs.Sessions.{IsCalled, LeavesLive, SessionCall, Part, called_as, calls, ends, is_pending, line_to, part_of}
+use Rattle.engine_history.specs.Sessions.{IsCalled, LeavesLive, SessionCall, SessionCalls, called_as, call_list, ends, is_pending, line_to, calls_by}
 use Rattle.engine_history.specs.Callers.{Awaits, IsToldBy, IsUntold}
-use Rattle.engine_history.specs.Errands.{EndsWithFailure}
+use Rattle.engine_history.specs.InFlightCalls.{EndsWithFailure}
 use Rattle.engine_history.specs.Failing.{refusal_of}
 use Rattle.engine_history.specs.Slots.{Slot, Shown}
 use Rattle.engine_answers.specs.Unfinished.{IsUnfinished, bar}
 use Rattle.engine_answers.specs.Why.{IsWhy, why_of}
 
 -- one call more, with what it came to and the line that was told of it
-abbrev pub AddsCall : Event → Out → Option Line → Part → Part → Type 0
-AddsCall e o line old new = calls new ≡ calls old ++ called_as e o line ∷ []
+abbrev pub AddsCall : Event → Out → Option Line → SessionCalls → SessionCalls → Type 0
+AddsCall e o line old new = call_list new ≡ call_list old ++ called_as e o line ∷ []
 
 -- the same of a call of the transaction that is alive
-abbrev pub AddsLiveCall : (ℕ → Event) → Out → Option Line → Part → Part → Type 0
+abbrev pub AddsLiveCall : (ℕ → Event) → Out → Option Line → SessionCalls → SessionCalls → Type 0
 AddsLiveCall of o line old new = (t : ℕ) × (old.live ≡ Some t) × AddsCall (of t) o line old new
 
 -- a call with an entry that is refused, since it wasn't answered
-pub record Refused (e : Event) (was : Option ℕ) (old : Part) (r : Refusal) (new : Part) : Type 0 where
+pub record Refused (e : Event) (was : Option ℕ) (old : SessionCalls) (r : Refusal) (new : SessionCalls) : Type 0 where
   pub call : SessionCall
   pub event : call.event ≡ e
-  pub adds : calls new ≡ calls old ++ call ∷ []
+  pub adds : call_list new ≡ call_list old ++ call ∷ []
   pub unanswered : is_answered call ≡ false
   pub why : IsWhy call was r new
 
 -- there is no entry, since no transaction is alive
-abbrev pub IsUnasked : Part → Part → Type 0
-IsUnasked old new = (calls new ≡ calls old) × (new.live ≡ None)
+abbrev pub IsUnasked : SessionCalls → SessionCalls → Type 0
+IsUnasked old new = (call_list new ≡ call_list old) × (new.live ≡ None)
 
 -- nor as long as an earlier call is unfinished
-pub record IsBarred (old : Part) (r : Refusal) (new : Part) : Type 0 where
+pub record IsBarred (old : SessionCalls) (r : Refusal) (new : SessionCalls) : Type 0 where
   pub unfinished : IsUnfinished old
   pub why : r ≡ bar old.latest
   pub same : new ≡ old
 
-abbrev pub IsUncalled : Part → Refusal → Part → Type 0
+abbrev pub IsUncalled : SessionCalls → Refusal → SessionCalls → Type 0
 IsUncalled old r new = ((r ≡ NotOpen) × IsUnasked old new) ⊎ IsBarred old r new
 
-abbrev pub RefusedCall : (ℕ → Event) → Part → Refusal → Part → Type 0
+abbrev pub RefusedCall : (ℕ → Event) → SessionCalls → Refusal → SessionCalls → Type 0
 RefusedCall of old r new =
     IsUncalled old r new ⊎ ((t : ℕ) × (old.live ≡ Some t) × Refused (of t) old.live old r new)
 
 -- of the call that begins a transaction there is no entry where one is alive
-abbrev pub IsSecond : Part → Part → Type 0
-IsSecond old new = (calls new ≡ calls old) × (is_some new.live ≡ true)
+abbrev pub IsSecond : SessionCalls → SessionCalls → Type 0
+IsSecond old new = (call_list new ≡ call_list old) × (is_some new.live ≡ true)
 
-abbrev pub RefusedBegin : Part → Refusal → Part → Type 0
+abbrev pub RefusedBegin : SessionCalls → Refusal → SessionCalls → Type 0
 RefusedBegin old r new = ((r ≡ Full) × IsSecond old new) ⊎ Refused event.Begin old.live old r new
 
 -- after such a line no transaction is alive
-abbrev pub EndsLive : Line → Part → Type 0
+abbrev pub EndsLive : Line → SessionCalls → Type 0
 EndsLive line new = ends line ≡ true → new.live ≡ None
 
--- the call stands in the journal, and nothing was told of it yet
-pub record CallsUntold (row : Shelves) (e : Event) (old : Part) (token : Slot) (new : Part) : Type 0 where
-  pub shown : Shown row token
+-- the call stands in the history, and nothing was told of it yet
+pub record CallsUntold (entries : Shelves) (e : Event) (old : SessionCalls) (token : Slot) (new : SessionCalls) : Type 0 where
+  pub shown : Shown entries token
   pub event : token.value.step.value.event ≡ e
   pub called : IsCalled old e token.value.step.value.out new
 
@@ -74,41 +74,41 @@ pub record CallsUntold (row : Shelves) (e : Event) (old : Part) (token : Slot) (
 pub record BeginsAlone (session : ℕ) (token : Slot) : Type 0 where
   pub event : token.value.step.value.event ≡ event.Begin
   pub own : token.value.step.value.caller ≡ Some session
-  pub none : (part_of session token.value.before.steps).live ≡ None
+  pub none : (calls_by session token.value.before.steps).live ≡ None
 
 -- a Begin that ended at once did so
 abbrev pub BeganAlone : ℕ → Ended → Type 0
 BeganAlone session (ended.AtOnce p) = BeginsAlone session p
 BeganAlone session _ = ⊤
 
--- the row shows such an entry, which was answered this number
-pub record ShowsBegun (row : Shelves) (session txn : ℕ) : Type 0 where
+-- the entries show such a one, which was answered this number
+pub record ShowsBegun (entries : Shelves) (session txn : ℕ) : Type 0 where
   pub token : Slot
-  pub shown : Shown row token
+  pub shown : Shown entries token
   pub begins : BeginsAlone session token
   pub out : token.value.step.value.out ≡ out.Begun txn
 
 -- how a call with an entry ended, by what it adds to the session's list
-abbrev pub Ends : Shelves → Event → Part → Ended → Part → Type 0
-Ends row e old (ended.AtOnce p) new =
-    Shown row p × (is_pending p.value.step.value.out ≡ false) × AddsCall e p.value.step.value.out None old new
+abbrev pub Ends : Shelves → Event → SessionCalls → Ended → SessionCalls → Type 0
+Ends entries e old (ended.AtOnce p) new =
+    Shown entries p × (is_pending p.value.step.value.out ≡ false) × AddsCall e p.value.step.value.out None old new
     × LeavesLive old.live p.value.step.value.out new
-Ends row e old (ended.Told p q) new =
-    Shown row p × Shown row q × (is_pending p.value.step.value.out ≡ true)
+Ends entries e old (ended.Told p q) new =
+    Shown entries p × Shown entries q × (is_pending p.value.step.value.out ≡ true)
     × ((t : ℕ) × ((line : Line) × (line_to t q.value.step.value.out ≡ Some line) × EndsLive line new
     × AddsCall e p.value.step.value.out (Some line) old new))
-Ends row e old (ended.Unfinished u f) new =
+Ends entries e old (ended.Unfinished u f) new =
     (is_pending u.call.value.step.value.out ≡ true) × (new.live ≡ old.live) × (is_some new.live ≡ true)
     × AddsCall e u.call.value.step.value.out None old new × EndsWithFailure [] new.failures f
-Ends row e old ended.CutOff new =
+Ends entries e old ended.CutOff new =
     (o : Out) × (is_pending o ≡ true) × (new.live ≡ None) × AddsCall e o None old new
 
--- the tokens of the entries that it names are shown by the row
+-- the tokens that it names are of entries
 abbrev pub AreShown : Shelves → Ended → Type 0
-AreShown row (ended.AtOnce p) = Shown row p
-AreShown row (ended.Told p q) = Shown row p × Shown row q
-AreShown row (ended.Unfinished u f) = ⊤
-AreShown row ended.CutOff = ⊤
+AreShown entries (ended.AtOnce p) = Shown entries p
+AreShown entries (ended.Told p q) = Shown entries p × Shown entries q
+AreShown entries (ended.Unfinished u f) = ⊤
+AreShown entries ended.CutOff = ⊤
 
 -- why it is refused, where neither its entry nor what was told of it answers it
 abbrev pub IsRefusalOf : (Out → Bool) → (Out → Out → Bool) → Ended → Refusal → Type 0
@@ -134,14 +134,14 @@ TellsCommit (out.Connects i committed) = ⊤
 TellsCommit _ = ⊥
 
 -- a call that has its entry was told of, or cut off; or nothing more was to be told of it
-abbrev pub Finishes : Shelves → Slot → Part → Ended → Part → Type 0
-Finishes row token old (ended.AtOnce p) new =
-    Shown row p × (p ≡ token) × (is_pending token.value.step.value.out ≡ false) × (new ≡ old)
-Finishes row token old (ended.Told p q) new =
-    Shown row p × (p ≡ token) × Shown row q × (is_pending token.value.step.value.out ≡ true)
+abbrev pub Finishes : Shelves → Slot → SessionCalls → Ended → SessionCalls → Type 0
+Finishes entries token old (ended.AtOnce p) new =
+    Shown entries p × (p ≡ token) × (is_pending token.value.step.value.out ≡ false) × (new ≡ old)
+Finishes entries token old (ended.Told p q) new =
+    Shown entries p × (p ≡ token) × Shown entries q × (is_pending token.value.step.value.out ≡ true)
     × IsToldBy old new q.value.step.value.out
-Finishes row token old (ended.Unfinished u f) new =
+Finishes entries token old (ended.Unfinished u f) new =
     (u.call ≡ token) × (is_pending token.value.step.value.out ≡ true) × Awaits old new
     × EndsWithFailure old.failures new.failures f
-Finishes row token old ended.CutOff new =
+Finishes entries token old ended.CutOff new =
     (is_pending token.value.step.value.out ≡ true) × (new.live ≡ None) × IsUntold old new

@@ -7,7 +7,7 @@ use Rattle.engine_history.specs.node_laws.specs.declared.event.Out.{Out}
 use Rattle.engine_history.specs.node_laws.specs.declared.event.Out.TheVariants as out
 use Rattle.engine_answers.specs.declared.ask.Ask.{Ask}
 use Rattle.engine_answers.specs.declared.ask.Ask.TheVariants as ask
-use Rattle.engine_history.specs.Errands.{is_commit_logged}
+use Rattle.engine_history.specs.InFlightCalls.{is_commit_logged}
 use Rattle.engine_history.specs.Sessions.{SessionCall, is_pending}
 
 -- the event that it is of this transaction

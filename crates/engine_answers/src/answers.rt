@@ -4,20 +4,20 @@ ghost use Rattle.engine_history.specs.node_laws.specs.declared.event.Out as outs
 ghost use Rattle.engine_history.specs.node_laws.specs.declared.event.Out.TheVariants as out;
 ghost use Rattle.engine_answers.specs.Again.{AnswersWith, IsNotTold, IsToldSo, answers_with};
 ghost use Rattle.engine_answers.specs.Answers.{AreShown, IsRefusalOf, IsToldAs, IsAtOnce, TellsCommit};
-ghost use Rattle.engine_history.specs.Errands.{is_commit_logged};
+ghost use Rattle.engine_history.specs.InFlightCalls.{is_commit_logged};
 ghost use Rattle.engine_answers.specs.Asking.{both, is_begun, is_saved, is_logged, is_asked, is_rolling, gives_answer, gives_row, gives_rows, gives_back, gives_rolled_back, gives_commit};
 
 use crate::ended::{Ended, why};
 use crate::told::Told;
 use codec::Rows;
 use engine_history::node_laws::{Event, Out};
-use engine_history::{Hall, KeptOut, Naming, OutForm, copied_value};
+use engine_history::{KeptOut, Naming, OutForm, Published, copied_value};
 use record_key::{Answer, Refusal, Value};
 use std::sync::Wait;
 use std::thread;
 
 /// The answer that a transaction's operation was told.
-pub fn answer_told<J: Naming>(hall: &Hall<J>, ended: &Ended) -> Result<Answer, Refusal>
+pub fn answer_told<J: Naming>(published: &Published<J>, ended: &Ended) -> Result<Answer, Refusal>
     requires { AreShown J.entries ended.now }
     ensures told { IfOk result (λ answer.
         IsToldAs (λ (o : outs.Out). (n : ℕ) × (o ≡ out.Logged n))
@@ -25,12 +25,12 @@ pub fn answer_told<J: Naming>(hall: &Hall<J>, ended: &Ended) -> Result<Answer, R
     ensures refused { IfErr result (λ r. IsRefusalOf (λ (o : outs.Out). false)
         (λ (o : outs.Out) (line : outs.Out). both (is_logged o) (gives_answer line)) ended.now r) }
 {
-    let row = hall.row();
+    let entries = published.entries();
     match ended {
         Ended::CutOff => Err(Refusal::NotConnected),
-        Ended::AtOnce(call) => Err(why(row.value(call).out())),
+        Ended::AtOnce(call) => Err(why(entries.value(call).out())),
         Ended::Unfinished(_, failure) => Err(failure.refusal()),
-        Ended::Told(call, line) => answer_of(row.value(call).out(), row.value(line).out()),
+        Ended::Told(call, line) => answer_of(entries.value(call).out(), entries.value(line).out()),
     }
 }
 
@@ -49,7 +49,10 @@ fn answer_of(call: &KeptOut, line: &KeptOut) -> Result<Answer, Refusal>
 }
 
 /// The value that a Get was told.
-pub fn row_told<J: Naming>(hall: &Hall<J>, ended: &Ended) -> Result<Option<Value>, Refusal>
+pub fn row_told<J: Naming>(
+    published: &Published<J>,
+    ended: &Ended,
+) -> Result<Option<Value>, Refusal>
     requires { AreShown J.entries ended.now }
     ensures told { IfOk result (λ value.
         IsToldAs (λ (o : outs.Out). (n : ℕ) × (o ≡ out.Asked n))
@@ -57,12 +60,12 @@ pub fn row_told<J: Naming>(hall: &Hall<J>, ended: &Ended) -> Result<Option<Value
     ensures refused { IfErr result (λ r. IsRefusalOf (λ (o : outs.Out). false)
         (λ (o : outs.Out) (line : outs.Out). both (is_asked o) (gives_row line)) ended.now r) }
 {
-    let row = hall.row();
+    let entries = published.entries();
     match ended {
         Ended::CutOff => Err(Refusal::NotConnected),
-        Ended::AtOnce(call) => Err(why(row.value(call).out())),
+        Ended::AtOnce(call) => Err(why(entries.value(call).out())),
         Ended::Unfinished(_, failure) => Err(failure.refusal()),
-        Ended::Told(call, line) => row_of(row.value(call).out(), row.value(line).out()),
+        Ended::Told(call, line) => row_of(entries.value(call).out(), entries.value(line).out()),
     }
 }
 
@@ -81,7 +84,11 @@ fn row_of(call: &KeptOut, line: &KeptOut) -> Result<Option<Value>, Refusal>
 }
 
 /// The rows that a Scan was told.
-pub fn rows_told<J: Naming, R: Wait>(rt: &R, hall: &Hall<J>, ended: &Ended) -> Result<Rows, Refusal>
+pub fn rows_told<J: Naming, R: Wait>(
+    rt: &R,
+    published: &Published<J>,
+    ended: &Ended,
+) -> Result<Rows, Refusal>
     requires { AreShown J.entries ended.now }
     ensures told { IfOk result (λ rows.
         IsToldAs (λ (o : outs.Out). (n : ℕ) × (o ≡ out.Asked n))
@@ -89,12 +96,16 @@ pub fn rows_told<J: Naming, R: Wait>(rt: &R, hall: &Hall<J>, ended: &Ended) -> R
     ensures refused { IfErr result (λ r. IsRefusalOf (λ (o : outs.Out). false)
         (λ (o : outs.Out) (line : outs.Out). both (is_asked o) (gives_rows line)) ended.now r) }
 {
-    let row = hall.row();
+    let entries = published.entries();
     match ended {
         Ended::CutOff => Err(Refusal::NotConnected),
-        Ended::AtOnce(call) => Err(why(row.value(call).out())),
+        Ended::AtOnce(call) => Err(why(entries.value(call).out())),
         Ended::Unfinished(_, failure) => Err(failure.refusal()),
-        Ended::Told(call, line) => rows_of(rt, row.value(call).out(), row.value(line).out()),
+        Ended::Told(call, line) => rows_of(
+            rt,
+            entries.value(call).out(),
+            entries.value(line).out(),
+        ),
     }
 }
 
@@ -113,7 +124,7 @@ fn rows_of<R: Wait>(rt: &R, call: &KeptOut, line: &KeptOut) -> Result<Rows, Refu
 }
 
 /// That a transaction is back at a savepoint.
-pub fn back_told<J: Naming>(hall: &Hall<J>, ended: &Ended) -> Result<(), Refusal>
+pub fn back_told<J: Naming>(published: &Published<J>, ended: &Ended) -> Result<(), Refusal>
     requires { AreShown J.entries ended.now }
     ensures told { IfOk result (λ done.
         IsToldAs (λ (o : outs.Out). o ≡ out.RollingBack)
@@ -121,12 +132,12 @@ pub fn back_told<J: Naming>(hall: &Hall<J>, ended: &Ended) -> Result<(), Refusal
     ensures refused { IfErr result (λ r. IsRefusalOf (λ (o : outs.Out). false)
         (λ (o : outs.Out) (line : outs.Out). both (is_rolling o) (gives_back line)) ended.now r) }
 {
-    let row = hall.row();
+    let entries = published.entries();
     match ended {
         Ended::CutOff => Err(Refusal::NotConnected),
-        Ended::AtOnce(call) => Err(why(row.value(call).out())),
+        Ended::AtOnce(call) => Err(why(entries.value(call).out())),
         Ended::Unfinished(_, failure) => Err(failure.refusal()),
-        Ended::Told(call, line) => back_of(row.value(call).out(), row.value(line).out()),
+        Ended::Told(call, line) => back_of(entries.value(call).out(), entries.value(line).out()),
     }
 }
 
@@ -145,7 +156,7 @@ fn back_of(call: &KeptOut, line: &KeptOut) -> Result<(), Refusal>
 }
 
 /// That a transaction is rolled back.
-pub fn rollback_told<J: Naming>(hall: &Hall<J>, ended: &Ended) -> Result<(), Refusal>
+pub fn rollback_told<J: Naming>(published: &Published<J>, ended: &Ended) -> Result<(), Refusal>
     requires { AreShown J.entries ended.now }
     ensures told { IfOk result (λ done.
         IsToldAs (λ (o : outs.Out). o ≡ out.RollingBack)
@@ -153,12 +164,15 @@ pub fn rollback_told<J: Naming>(hall: &Hall<J>, ended: &Ended) -> Result<(), Ref
     ensures refused { IfErr result (λ r. IsRefusalOf (λ (o : outs.Out). false)
         (λ (o : outs.Out) (line : outs.Out). both (is_rolling o) (gives_rolled_back line)) ended.now r) }
 {
-    let row = hall.row();
+    let entries = published.entries();
     match ended {
         Ended::CutOff => Err(Refusal::NotConnected),
-        Ended::AtOnce(call) => Err(why(row.value(call).out())),
+        Ended::AtOnce(call) => Err(why(entries.value(call).out())),
         Ended::Unfinished(_, failure) => Err(failure.refusal()),
-        Ended::Told(call, line) => rollback_of(row.value(call).out(), row.value(line).out()),
+        Ended::Told(call, line) => rollback_of(
+            entries.value(call).out(),
+            entries.value(line).out(),
+        ),
     }
 }
 
@@ -175,7 +189,7 @@ fn rollback_of(call: &KeptOut, line: &KeptOut) -> Result<(), Refusal>
 }
 
 /// The number of the Commit record of a transaction that was told to have committed.
-pub fn commit_told<J: Naming>(hall: &Hall<J>, ended: &Ended) -> Result<u64, Refusal>
+pub fn commit_told<J: Naming>(published: &Published<J>, ended: &Ended) -> Result<u64, Refusal>
     requires { AreShown J.entries ended.now }
     ensures told { IfOk result (λ number.
         IsToldAs (λ (o : outs.Out). o ≡ out.CommitLogged number)
@@ -183,12 +197,12 @@ pub fn commit_told<J: Naming>(hall: &Hall<J>, ended: &Ended) -> Result<u64, Refu
     ensures refused { IfErr result (λ r. IsRefusalOf (λ (o : outs.Out). false)
         (λ (o : outs.Out) (line : outs.Out). both (is_commit_logged o) (gives_commit line)) ended.now r) }
 {
-    let row = hall.row();
+    let entries = published.entries();
     match ended {
         Ended::CutOff => Err(Refusal::NotConnected),
-        Ended::AtOnce(call) => Err(why(row.value(call).out())),
+        Ended::AtOnce(call) => Err(why(entries.value(call).out())),
         Ended::Unfinished(_, failure) => Err(failure.refusal()),
-        Ended::Told(call, line) => commit_of(row.value(call).out(), row.value(line).out()),
+        Ended::Told(call, line) => commit_of(entries.value(call).out(), entries.value(line).out()),
     }
 }
 
@@ -209,7 +223,7 @@ fn commit_of(call: &KeptOut, line: &KeptOut) -> Result<u64, Refusal>
 /// What was told of a call that was carried on.
 pub fn carried_told<J: Naming, R: Wait>(
     rt: &R,
-    hall: &Hall<J>,
+    published: &Published<J>,
     ended: &Ended,
 ) -> Result<Told, Refusal>
     requires { AreShown J.entries ended.now }
@@ -220,9 +234,14 @@ pub fn carried_told<J: Naming, R: Wait>(
         Ended::AtOnce(_) | Ended::CutOff => Err(Refusal::NotConnected),
         Ended::Unfinished(_, failure) => Err(failure.refusal()),
         Ended::Told(call, line) => {
-            let step = &hall.row().value(call).step;
+            let step = &published.entries().value(call).step;
             let event = step.event.lent();
-            told_of(rt, event.get(), &step.out, hall.row().value(line).out())
+            told_of(
+                rt,
+                event.get(),
+                &step.out,
+                published.entries().value(line).out(),
+            )
         }
     }
 }
@@ -251,7 +270,7 @@ fn told_of<R: Wait>(rt: &R, event: &Event, call: &KeptOut, line: &KeptOut) -> Re
 }
 
 /// The number of a savepoint that was set.
-pub fn saved<J: Naming>(hall: &Hall<J>, ended: &Ended) -> Result<u64, Refusal>
+pub fn saved<J: Naming>(published: &Published<J>, ended: &Ended) -> Result<u64, Refusal>
     requires { AreShown J.entries ended.now }
     ensures told { IfOk result (λ s. IsAtOnce (out.Saved s) ended.now) }
     ensures refused { IfErr result (λ r. IsRefusalOf is_saved (λ (o : outs.Out) (line : outs.Out). false) ended.now r) }
@@ -260,7 +279,7 @@ pub fn saved<J: Naming>(hall: &Hall<J>, ended: &Ended) -> Result<u64, Refusal>
         Ended::CutOff | Ended::Told(_, _) => Err(Refusal::NotConnected),
         Ended::Unfinished(_, failure) => Err(failure.refusal()),
         Ended::AtOnce(call) => {
-            let out = hall.row().value(call).out();
+            let out = published.entries().value(call).out();
             match out.other() {
                 Some(Out::Saved(savepoint)) => Ok(*savepoint),
                 _ => Err(why(out)),
@@ -270,7 +289,7 @@ pub fn saved<J: Naming>(hall: &Hall<J>, ended: &Ended) -> Result<u64, Refusal>
 }
 
 /// The number of a transaction that has begun.
-pub fn begun<J: Naming>(hall: &Hall<J>, ended: &Ended) -> Result<u64, Refusal>
+pub fn begun<J: Naming>(published: &Published<J>, ended: &Ended) -> Result<u64, Refusal>
     requires { AreShown J.entries ended.now }
     ensures told { IfOk result (λ t. IsAtOnce (out.Begun t) ended.now) }
     ensures refused { IfErr result (λ r. IsRefusalOf is_begun (λ (o : outs.Out) (line : outs.Out). false) ended.now r) }
@@ -279,7 +298,7 @@ pub fn begun<J: Naming>(hall: &Hall<J>, ended: &Ended) -> Result<u64, Refusal>
         Ended::CutOff | Ended::Told(_, _) => Err(Refusal::NotConnected),
         Ended::Unfinished(_, failure) => Err(failure.refusal()),
         Ended::AtOnce(call) => {
-            let out = hall.row().value(call).out();
+            let out = published.entries().value(call).out();
             match out.form() {
                 OutForm::Begun(txn) => Ok(*txn),
                 _ => Err(why(out)),

@@ -23,7 +23,7 @@ pub trait Calls {
     /// How far the log is stable, and up to which number all is answered and announced, as this call reads it.
     fn marks(&mut self) -> (u64, u64)
         ensures number { (session self.new).number ≡ (session self.old).number }
-        ensures part { (session self.new).part ≡ (session self.old).part }
+        ensures calls { (session self.new).calls ≡ (session self.old).calls }
         ensures ordered { result.1 ≤ result.0 }
         ensures stable_never_falls { (session self.old).seat.stable ≤ result.0 }
         ensures low_never_falls { (session self.old).seat.low ≤ result.1 }
@@ -32,80 +32,80 @@ pub trait Calls {
     /// Begins a transaction, and answers its number.
     fn begin<R: Wait>(&mut self, rt: &R) -> Result<u64, Refusal>
         ensures number { (session self.new).number ≡ (session self.old).number }
-        ensures begun { IfOk result (λ t. AddsCall event.Begin (out.Begun t) None (session self.old).part
-            (session self.new).part × ((session self.new).part.live ≡ Some t)) }
-        ensures refused { IfErr result (λ r. RefusedBegin (session self.old).part r (session self.new).part) };
+        ensures begun { IfOk result (λ t. AddsCall event.Begin (out.Begun t) None (session self.old).calls
+            (session self.new).calls × ((session self.new).calls.live ≡ Some t)) }
+        ensures refused { IfErr result (λ r. RefusedBegin (session self.old).calls r (session self.new).calls) };
 
     /// Does an operation, and answers what it gave.
     fn act<R: Wait>(&mut self, rt: &R, op: &Op) -> Result<Answer, Refusal>
         ensures number { (session self.new).number ≡ (session self.old).number }
         ensures answered { IfOk result (λ a. (u : ℕ) × (n : ℕ) ×
-            AddsLiveCall (λ t. event.Act t op.now) (out.Logged n) (Some (TellsAnswer u a)) (session self.old).part
-            (session self.new).part) }
+            AddsLiveCall (λ t. event.Act t op.now) (out.Logged n) (Some (TellsAnswer u a)) (session self.old).calls
+            (session self.new).calls) }
         ensures refused { IfErr result (λ r.
-            RefusedCall (λ t. event.Act t op.now) (session self.old).part r (session self.new).part) };
+            RefusedCall (λ t. event.Act t op.now) (session self.old).calls r (session self.new).calls) };
 
     /// The value at a key.
     fn get<R: Wait>(&mut self, rt: &R, key: &Key) -> Result<Option<Value>, Refusal>
         ensures number { (session self.new).number ≡ (session self.old).number }
         ensures read { IfOk result (λ v. (u : ℕ) × (n : ℕ) ×
-            AddsLiveCall (λ t. event.Get t key.now) (out.Asked n) (Some (TellsRow u v)) (session self.old).part
-            (session self.new).part) }
+            AddsLiveCall (λ t. event.Get t key.now) (out.Asked n) (Some (TellsRow u v)) (session self.old).calls
+            (session self.new).calls) }
         ensures refused { IfErr result (λ r.
-            RefusedCall (λ t. event.Get t key.now) (session self.old).part r (session self.new).part) };
+            RefusedCall (λ t. event.Get t key.now) (session self.old).calls r (session self.new).calls) };
 
     /// The rows from `low` on, below `high` or to the end.
     fn scan<R: Wait>(&mut self, rt: &R, low: &Key, high: &Option<Key>) -> Result<Rows, Refusal>
         ensures number { (session self.new).number ≡ (session self.old).number }
         ensures read { IfOk result (λ rows. (u : ℕ) × (n : ℕ) ×
             AddsLiveCall (λ t. event.Scan t low.now high.now) (out.Asked n) (Some (TellsRows u rows))
-            (session self.old).part (session self.new).part) }
+            (session self.old).calls (session self.new).calls) }
         ensures refused { IfErr result (λ r.
-            RefusedCall (λ t. event.Scan t low.now high.now) (session self.old).part r (session self.new).part) };
+            RefusedCall (λ t. event.Scan t low.now high.now) (session self.old).calls r (session self.new).calls) };
 
     /// Sets a savepoint, and answers its number.
     fn save<R: Wait>(&mut self, rt: &R) -> Result<u64, Refusal>
         ensures number { (session self.new).number ≡ (session self.old).number }
-        ensures saved { IfOk result (λ s. AddsLiveCall (λ t. event.Save t) (out.Saved s) None (session self.old).part
-            (session self.new).part) }
+        ensures saved { IfOk result (λ s. AddsLiveCall (λ t. event.Save t) (out.Saved s) None (session self.old).calls
+            (session self.new).calls) }
         ensures refused { IfErr result (λ r.
-            RefusedCall (λ t. event.Save t) (session self.old).part r (session self.new).part) };
+            RefusedCall (λ t. event.Save t) (session self.old).calls r (session self.new).calls) };
 
     /// Rolls back to a savepoint; returns once that is done.
     fn back_to<R: Wait>(&mut self, rt: &R, savepoint: u64) -> Result<(), Refusal>
         ensures number { (session self.new).number ≡ (session self.old).number }
         ensures back { IfOk result (λ done. (u : ℕ) × (s : ℕ) ×
-            AddsLiveCall (λ t. event.GoBack t savepoint) out.RollingBack (Some (TellsBack u s)) (session self.old).part
-            (session self.new).part) }
+            AddsLiveCall (λ t. event.GoBack t savepoint) out.RollingBack (Some (TellsBack u s)) (session self.old).calls
+            (session self.new).calls) }
         ensures refused { IfErr result (λ r.
-            RefusedCall (λ t. event.GoBack t savepoint) (session self.old).part r (session self.new).part) };
+            RefusedCall (λ t. event.GoBack t savepoint) (session self.old).calls r (session self.new).calls) };
 
     /// Rolls the transaction back; returns once that is done.
     fn rollback<R: Wait>(&mut self, rt: &R) -> Result<(), Refusal>
         ensures number { (session self.new).number ≡ (session self.old).number }
         ensures rolled_back { IfOk result (λ done. (u : ℕ) ×
-            AddsLiveCall (λ t. event.Rollback t) out.RollingBack (Some (TellsRolledBack u)) (session self.old).part
-            (session self.new).part × ((session self.new).part.live ≡ None)) }
+            AddsLiveCall (λ t. event.Rollback t) out.RollingBack (Some (TellsRolledBack u)) (session self.old).calls
+            (session self.new).calls × ((session self.new).calls.live ≡ None)) }
         ensures refused { IfErr result (λ r.
-            RefusedCall (λ t. event.Rollback t) (session self.old).part r (session self.new).part) };
+            RefusedCall (λ t. event.Rollback t) (session self.old).calls r (session self.new).calls) };
 
     /// Commits the transaction, and answers the number of its Commit record, once that is stable and the session has seen
     /// it so.
     fn commit<R: Wait>(&mut self, rt: &R) -> Result<u64, Refusal>
         ensures number { (session self.new).number ≡ (session self.old).number }
         ensures committed { IfOk result (λ n. (u : ℕ) ×
-            AddsLiveCall (λ t. event.Commit t) (out.CommitLogged n) (Some (TellsCommitted u)) (session self.old).part
-            (session self.new).part × ((session self.new).part.live ≡ None)) }
+            AddsLiveCall (λ t. event.Commit t) (out.CommitLogged n) (Some (TellsCommitted u)) (session self.old).calls
+            (session self.new).calls × ((session self.new).calls.live ≡ None)) }
         ensures seen { IfOk result (λ n. n ≤ (session self.new).seat.stable) }
         ensures refused { IfErr result (λ r.
-            RefusedCall (λ t. event.Commit t) (session self.old).part r (session self.new).part) };
+            RefusedCall (λ t. event.Commit t) (session self.old).calls r (session self.new).calls) };
 
     /// Carries on what is unfinished of the session's transaction, and answers what the call would have.
     fn again<R: Wait>(&mut self, rt: &R) -> Result<Told, Refusal>
         ensures number { (session self.new).number ≡ (session self.old).number }
-        ensures told { IfOk result (λ told. CarriesOn (session self.old).part told (session self.new).part) }
+        ensures told { IfOk result (λ told. CarriesOn (session self.old).calls told (session self.new).calls) }
         ensures seen { IfOk result (IsSeenBy (session self.new).seat.stable) }
-        ensures refused { IfErr result (λ r. RefusedAgain (session self.old).part r (session self.new).part) };
+        ensures refused { IfErr result (λ r. RefusedAgain (session self.old).calls r (session self.new).calls) };
 }
 
 /// The calls of who has an engine, beside its clients'.

@@ -3,29 +3,29 @@ use Rattle.std.proofs.Common.{◌≡◌, ◌⊎◌, ℕ, ◌+◌, zero, suc, tru
 use Rattle.std.specs.Option.{is_some}
 use Rattle.boxcar.specs.Table.{Shelves}
 use Rattle.history.specs.ListMachine.{Line}
-use Rattle.engine_agreement.specs.Tied.{Tied}
+use Rattle.engine_agreement.specs.Agreed.{Agreed}
 use Rattle.engine_history.specs.declared.failure.Failure.{Failure}
 use Rattle.engine_history.specs.declared.step.Step.{Step}
 use Rattle.engine_history.specs.node_laws.specs.declared.event.Event.{Event}
 use Rattle.engine_history.specs.node_laws.specs.declared.event.Out.{Out}
 use Rattle.engine_history.specs.Callers.{Awaits, HasLine, IsUntold}
-use Rattle.engine_history.specs.Errands.{FailsSince}
+use Rattle.engine_history.specs.InFlightCalls.{FailsSince}
 use Rattle.engine_history.specs.Kept.{calls_of}
-use Rattle.engine_history.specs.Sessions.{IsClosed, IsLeft, IsSameCall, Part, SessionCall, awaits, called_as, is_pending, line_of, part_of, pending}
+use Rattle.engine_history.specs.Sessions.{IsClosed, IsLeft, IsSameCall, SessionCalls, SessionCall, awaits, called_as, is_pending, line_of, calls_by, pending}
 use Rattle.engine_history.specs.Views.{Sees}
 use Rattle.engine_guarded.specs.declared.heard.Heard.{Heard}
-use Rattle.engine_guarded.specs.declared.news.News.{News}
-use Rattle.engine_guarded.specs.declared.news.News.TheVariants as news
+use Rattle.engine_guarded.specs.declared.status.CallStatus.{CallStatus}
+use Rattle.engine_guarded.specs.declared.status.CallStatus.TheVariants as status
 use Rattle.engine_guarded.specs.declared.place.Place.{Place}
-use Rattle.engine_guarded.specs.Callers.{CallsWith, IsCut, IsMade, IsNews, IsNewsOf, IsTold, is_busy}
+use Rattle.engine_guarded.specs.Callers.{CallsWith, IsCut, IsMade, IsStatus, IsStatusOf, IsTold, is_busy}
 use Rattle.engine_guarded.specs.Hearing.{as_line}
 use Rattle.engine_guarded.specs.Places.{CameSince, HeardSince, IsAmid, IsResting, PlaceKept}
 use Rattle.engine_guarded.specs.Running.{GoesOn, made}
 use Rattle.engine_guarded.specs.Slots.{Slot, seen}
 use Rattle.engine_guarded.proofs.Places.{not_pending}
 use Rattle.engine_guarded.proofs.Running.{sees_on}
-use Rattle.engine_history.proofs.Entering.{part_called}
-use Rattle.engine_history.proofs.Parts.{ended, grown}
+use Rattle.engine_history.proofs.Entering.{one_more_call}
+use Rattle.engine_history.proofs.NextCalls.{ended, grown}
 
 -- ---- by what a place has
 
@@ -50,58 +50,58 @@ same_live old new (inr gone) lives = absurd (cc (sym (ap (λ (o : Option ℕ). i
 
 -- since these steps, at which nothing was told of the latest call
 module _ (s : ℕ) (before es : List Step) (fs : List Failure) (p : Place) (sees : Sees (calls_of s) before es)
-    (old : line_of (part_of s before).latest ≡ None) (same : (part_of s before).failures ≡ fs)
-    (live : p.live ≡ (part_of s es).live) (came : CameSince None fs (part_of s es) p) where
-  told_news : (h : Heard) → p.line ≡ Some h → IsTold (part_of s before) (part_of s es) h
-  told_news h is =
+    (old : line_of (calls_by s before).latest ≡ None) (same : (calls_by s before).failures ≡ fs)
+    (live : p.live ≡ (calls_by s es).live) (came : CameSince None fs (calls_by s es) p) where
+  told_status : (h : Heard) → p.line ≡ Some h → IsTold (calls_by s before) (calls_by s es) h
+  told_status h is =
       let g = grown s before es sees in
-      let l = subst (HeardSince None (line_of (part_of s es).latest)) is came.line in
+      let l = subst (HeardSince None (line_of (calls_by s es).latest)) is came.line in
       record {
         txn = l.0;
         before = g.before;
-        latest = has_line (part_of s before).latest (part_of s es).latest (as_line l.0 h) g.latest l.1;
-        closed = inr (idle (part_of s es).latest (as_line l.0 h) l.1);
+        latest = has_line (calls_by s before).latest (calls_by s es).latest (as_line l.0 h) g.latest l.1;
+        closed = inr (idle (calls_by s es).latest (as_line l.0 h) l.1);
         over = ended s es (as_line l.0 h) l.1;
       }
 
-  untold_news : p.line ≡ None → IsUntold (part_of s before) (part_of s es)
-  untold_news is =
+  untold_status : p.line ≡ None → IsUntold (calls_by s before) (calls_by s es)
+  untold_status is =
       let g = grown s before es sees in
       record {
         before = g.before;
         latest =
-            untold (part_of s before).latest (part_of s es).latest g.latest old
-            (subst (HeardSince None (line_of (part_of s es).latest)) is came.line);
+            untold (calls_by s before).latest (calls_by s es).latest g.latest old
+            (subst (HeardSince None (line_of (calls_by s es).latest)) is came.line);
       }
 
-  awaits_news : p.line ≡ None → is_some p.live ≡ true → Awaits (part_of s before) (part_of s es)
-  awaits_news is alive =
+  awaits_status : p.line ≡ None → is_some p.live ≡ true → Awaits (calls_by s before) (calls_by s es)
+  awaits_status is alive =
       let g = grown s before es sees in
-      let lives : is_some (part_of s es).live ≡ true = ap (λ (o : Option ℕ). is_some o) (sym live) ∙ alive in
+      let lives : is_some (calls_by s es).live ≡ true = ap (λ (o : Option ℕ). is_some o) (sym live) ∙ alive in
       record {
-        untold = untold_news is;
-        live = same_live (part_of s before).live (part_of s es).live g.live lives;
+        untold = untold_status is;
+        live = same_live (calls_by s before).live (calls_by s es).live g.live lives;
         alive = lives;
       }
 
-  failures_news : (u : Option Failure) → p.failed ≡ u → FailsSince (part_of s before).failures (part_of s es).failures u
-  failures_news u is =
-      subst (λ (w : List Failure × Option Failure). FailsSince w.0 (part_of s es).failures w.1)
+  failures_status : (u : Option Failure) → p.failed ≡ u → FailsSince (calls_by s before).failures (calls_by s es).failures u
+  failures_status u is =
+      subst (λ (w : List Failure × Option Failure). FailsSince w.0 (calls_by s es).failures w.1)
       (λ i. (sym same i, is i)) came.failed
 
-  news_since : (n : News) → IsNewsOf p n → IsNews (part_of s before) (part_of s es) n
-  news_since (news.Told h) is = told_news h is
-  news_since news.CutOff is = (untold_news is.0, sym live ∙ is.1)
-  news_since (news.Refused f) is = (awaits_news is.0 is.1, failures_news (Some f) is.2)
-  news_since news.Nothing is = (awaits_news is.0 is.1, failures_news None is.2)
+  status_since : (n : CallStatus) → IsStatusOf p n → IsStatus (calls_by s before) (calls_by s es) n
+  status_since (status.Told h) is = told_status h is
+  status_since status.CutOff is = (untold_status is.0, sym live ∙ is.1)
+  status_since (status.Refused f) is = (awaits_status is.0 is.1, failures_status (Some f) is.2)
+  status_since status.Nothing is = (awaits_status is.0 is.1, failures_status None is.2)
 
 -- a place that isn't amid a call is resting, and one that is isn't
-pub resting : (es : List Step) (s : ℕ) (p : Place) (n : ℕ) → IsAmid es s p ⊎ IsResting es s p → p.book.number ≡ n + 1
+pub resting : (es : List Step) (s : ℕ) (p : Place) (n : ℕ) → IsAmid es s p ⊎ IsResting es s p → p.far_end.number ≡ n + 1
     → IsResting es s p
 resting es s p n (inl amid) is = absurd (omega (arith, amid.0, is))
 resting es s p n (inr rest) is = rest
 
-pub amid : (es : List Step) (s : ℕ) (p : Place) → IsAmid es s p ⊎ IsResting es s p → p.book.number ≡ 0 → IsAmid es s p
+pub amid : (es : List Step) (s : ℕ) (p : Place) → IsAmid es s p ⊎ IsResting es s p → p.far_end.number ≡ 0 → IsAmid es s p
 amid es s p (inl a) is = a
 amid es s p (inr rest) is = absurd (omega (arith, rest.0, is))
 
@@ -113,34 +113,34 @@ pub idle_is : (m n : ℕ) → (m ≡ 0) ⊎ (m ≡ n + 1) → is_busy m ≡ fals
 idle_is m n (inl none) is = absurd (cc (sym (ap is_busy none) ∙ is))
 idle_is m n (inr some) is = some
 
-pub news_amid : (row : Shelves) (names : ℕ → ℕ) (s : ℕ) (before es : List Step) (p : Place) (n : News)
-    → PlaceKept row names es s p → p.book.number ≡ 0 → IsMade s before es → IsNewsOf p n
-    → IsNews (part_of s before) (part_of s es) n
-news_amid row names s before es p n k zero_is made is =
-    news_since s before es [] p made.sees made.untold made.fresh k.live (amid es s p k.stands zero_is).1 n is
+pub status_amid : (entries : Shelves) (names : ℕ → ℕ) (s : ℕ) (before es : List Step) (p : Place) (n : CallStatus)
+    → PlaceKept entries names es s p → p.far_end.number ≡ 0 → IsMade s before es → IsStatusOf p n
+    → IsStatus (calls_by s before) (calls_by s es) n
+status_amid entries names s before es p n k zero_is made is =
+    status_since s before es [] p made.sees made.untold made.fresh k.live (amid es s p k.stands zero_is).1 n is
 
-pub news_resting : (row : Shelves) (names : ℕ → ℕ) (s : ℕ) (before es : List Step) (p : Place) (n : News) (m : ℕ)
-    → PlaceKept row names es s p → p.book.number ≡ m + 1 → seen p.last ≡ before → line_of (part_of s before).latest ≡ None
-    → IsNewsOf p n → IsNews (part_of s before) (part_of s es) n
-news_resting row names s before es p n m k number seen_is old is =
+pub status_resting : (entries : Shelves) (names : ℕ → ℕ) (s : ℕ) (before es : List Step) (p : Place) (n : CallStatus) (m : ℕ)
+    → PlaceKept entries names es s p → p.far_end.number ≡ m + 1 → seen p.last ≡ before → line_of (calls_by s before).latest ≡ None
+    → IsStatusOf p n → IsStatus (calls_by s before) (calls_by s es) n
+status_resting entries names s before es p n m k number seen_is old is =
     let r = resting es s p m k.stands number in
     let sees = subst (λ (xs : List Step). Sees (calls_of s) xs es) seen_is r.1 in
-    let came = subst (λ (xs : List Step). CameSince (line_of (part_of s xs).latest) (part_of s xs).failures (part_of s es) p)
+    let came = subst (λ (xs : List Step). CameSince (line_of (calls_by s xs).latest) (calls_by s xs).failures (calls_by s es) p)
     seen_is r.2 in
-    news_since s before es (part_of s before).failures p sees old refl k.live
-    (subst (λ (l : Option Line). CameSince l (part_of s before).failures (part_of s es) p) old came) n is
+    status_since s before es (calls_by s before).failures p sees old refl k.live
+    (subst (λ (l : Option Line). CameSince l (calls_by s before).failures (calls_by s es) p) old came) n is
 
 -- where nothing was told since, and no transaction is alive
-pub cut_off : (row : Shelves) (names : ℕ → ℕ) (s : ℕ) (before es : List Step) (p : Place) (m : ℕ)
-    → PlaceKept row names es s p → p.book.number ≡ m + 1 → seen p.last ≡ before → p.live ≡ None → p.line ≡ None
-    → IsCut (part_of s before) (part_of s es)
-cut_off row names s before es p m k number seen_is gone none =
+pub cut_off : (entries : Shelves) (names : ℕ → ℕ) (s : ℕ) (before es : List Step) (p : Place) (m : ℕ)
+    → PlaceKept entries names es s p → p.far_end.number ≡ m + 1 → seen p.last ≡ before → p.live ≡ None → p.line ≡ None
+    → IsCut (calls_by s before) (calls_by s es)
+cut_off entries names s before es p m k number seen_is gone none =
     let r = resting es s p m k.stands number in
-    let came = subst (λ (xs : List Step). CameSince (line_of (part_of s xs).latest) (part_of s xs).failures (part_of s es) p)
+    let came = subst (λ (xs : List Step). CameSince (line_of (calls_by s xs).latest) (calls_by s xs).failures (calls_by s es) p)
     seen_is r.2 in
     record {
       live = sym k.live ∙ gone;
-      line = subst (HeardSince (line_of (part_of s before).latest) (line_of (part_of s es).latest)) none came.line;
+      line = subst (HeardSince (line_of (calls_by s before).latest) (line_of (calls_by s es).latest)) none came.line;
     }
 
 line_in : (old new : Option SessionCall) (l : Line) → HasLine old new l → line_of new ≡ Some l
@@ -151,25 +151,25 @@ not_alive : (o : Option ℕ) → o ≡ None → is_some o ≡ true → ⊥
 not_alive o gone alive = cc (sym (ap (λ (x : Option ℕ). is_some x) gone) ∙ alive)
 
 -- nothing else is new of a call that was cut off
-pub news_cut : (old new : Part) (n : News) → IsCut old new → line_of old.latest ≡ None → IsNews old new n
-    → (n ≡ news.CutOff) × IsUntold old new
-news_cut old new (news.Told h) cut none is =
+pub status_cut : (old new : SessionCalls) (n : CallStatus) → IsCut old new → line_of old.latest ≡ None → IsStatus old new n
+    → (n ≡ status.CutOff) × IsUntold old new
+status_cut old new (status.Told h) cut none is =
     absurd (cc (sym (line_in old.latest new.latest (as_line is.txn h) is.latest) ∙ cut.line ∙ none))
-news_cut old new news.CutOff cut none is = (refl, is.0)
-news_cut old new (news.Refused f) cut none is = absurd (not_alive new.live cut.live is.0.alive)
-news_cut old new news.Nothing cut none is = absurd (not_alive new.live cut.live is.0.alive)
+status_cut old new status.CutOff cut none is = (refl, is.0)
+status_cut old new (status.Refused f) cut none is = absurd (not_alive new.live cut.live is.0.alive)
+status_cut old new status.Nothing cut none is = absurd (not_alive new.live cut.live is.0.alive)
 
 -- ---- a call, up to what is found of it
 
-pub calls_with : (s : ℕ) (before es mid now : List Step) (e : Event) (o : Out) (n : News) → Sees (calls_of s) before es
-    → IsClosed (part_of s before) → mid ≡ es ++ made (Some s) e o ∷ [] → GoesOn mid now
+pub calls_with : (s : ℕ) (before es mid now : List Step) (e : Event) (o : Out) (n : CallStatus) → Sees (calls_of s) before es
+    → IsClosed (calls_by s before) → mid ≡ es ++ made (Some s) e o ∷ [] → GoesOn mid now
     → (is_pending o ≡ false → now ≡ mid)
-    → (IsMade s mid now → IsNews (part_of s mid) (part_of s now) n)
-    → CallsWith e o (part_of s before) n (part_of s now)
+    → (IsMade s mid now → IsStatus (calls_by s mid) (calls_by s now) n)
+    → CallsWith e o (calls_by s before) n (calls_by s now)
 calls_with s before es mid now e o n sees closed mid_is goes done found =
-    let called = part_called s before es mid (made (Some s) e o) refl sees closed mid_is in
+    let called = one_more_call s before es mid (made (Some s) e o) refl sees closed mid_is in
     record {
-      mid = part_of s mid;
+      mid = calls_by s mid;
       called = called;
       follows = record {
         awaited = λ _. found (record {
@@ -177,14 +177,14 @@ calls_with s before es mid now e o n sees closed mid_is goes done found =
           untold = ap line_of called.latest;
           fresh = called.failures;
         });
-        done = λ is. ap (part_of s) (done is);
+        done = λ is. ap (calls_by s) (done is);
       };
     }
 
 -- only what was told and failed counts
-pub same_news : (p : Place) (book : Tied) (last : Slot) (n : News) → IsNewsOf (record p { book = book; last = last }) n
-    → IsNewsOf p n
-same_news p book last (news.Told h) is = is
-same_news p book last news.CutOff is = is
-same_news p book last (news.Refused f) is = is
-same_news p book last news.Nothing is = is
+pub same_status : (p : Place) (far_end : Agreed) (last : Slot) (n : CallStatus) → IsStatusOf (record p { far_end = far_end; last = last }) n
+    → IsStatusOf p n
+same_status p far_end last (status.Told h) is = is
+same_status p far_end last status.CutOff is = is
+same_status p far_end last (status.Refused f) is = is
+same_status p far_end last status.Nothing is = is

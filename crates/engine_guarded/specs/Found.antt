@@ -24,10 +24,10 @@ IsOwned owner e = is_command e.event ≡ true → e.caller ≡ Some owner
 
 -- the steps lead from the start to the node, and each session has its place; the last place is the engine's own, and it
 -- alone crashes anything or arms a failure; and the number is the greatest one that was announced, and is stable
-pub record IsGuarded (start : Start) (row : Shelves) (names : ℕ → ℕ) (sessions : ℕ) (es : List Step) (node : NodeView)
+pub record IsGuarded (start : Start) (entries : Shelves) (names : ℕ → ℕ) (sessions : ℕ) (es : List Step) (node : NodeView)
     (places : List Place) (low : ℕ) : Type 0 where
   pub passes : PassesFrom start es node
-  pub places_are : PlacesKept row names es places
+  pub places_are : PlacesKept entries names es places
   pub count : length places ≡ sessions + 1
   pub owned : AllByRecursion (IsOwned sessions) es
   pub low_is : low ≡ announced es

@@ -1,4 +1,4 @@
--- What tokens of the row show.
+-- What tokens of entries show.
 use Rattle.std.specs.Prelude.{◌≡◌, ◌<◌, ◌^◌, ◌+◌, List}
 use Rattle.boxcar.specs.Table.{Where, Shelves, Shows}
 use Rattle.engine_history.specs.declared.step.Step.{Step}
@@ -11,13 +11,13 @@ Slot = Where Entry
 abbrev pub seen : Slot → List Step
 seen p = p.value.past.items
 
--- the row shows it, at an index after which there is another
-pub record Shown (row : Shelves) (p : Slot) : Type 0 where
-  pub shows : Shows row p
+-- the entries show it, at an index after which there is another
+pub record Shown (entries : Shelves) (p : Slot) : Type 0 where
+  pub shows : Shows entries p
   pub counted : p.index + 1 < 2 ^ 64
 
--- the row shows an entry up to which these steps are
-pub record IsShownBy (row : Shelves) (steps : List Step) : Type 0 where
+-- there is an entry up to which these steps are
+pub record IsShownBy (entries : Shelves) (steps : List Step) : Type 0 where
   pub entry : Slot
-  pub shown : Shown row entry
+  pub shown : Shown entries entry
   pub steps_are : seen entry ≡ steps

@@ -48,7 +48,7 @@ impl<J: Naming> Caller<J> {
         }
     }
 
-    /// The row shows an entry up to which these steps are.
+    /// There is an entry up to which these steps are.
     pub fn shown(&self)
         ensures { IsShownBy J.entries self.now.steps }
     {

@@ -3,19 +3,19 @@ ghost use Rattle.std.specs.Prelude.{◌≡◌, ℕ, ◌++◌, ◌∷◌, [], fal
 ghost use Rattle.engine_history.specs.Commands.{is_command};
 ghost use Rattle.engine_history.specs.node_laws.specs.declared.event.Event.TheVariants as event;
 ghost use Rattle.engine_history.specs.Kept.{calls_of};
-ghost use Rattle.engine_history.specs.Sessions.{IsClosed, is_pending, line_of, part_of};
+ghost use Rattle.engine_history.specs.Sessions.{IsClosed, is_pending, line_of, calls_by};
 ghost use Rattle.engine_history.specs.Views.{Sees};
 ghost use Rattle.engine_answers.specs.Answers.{IsSecond, IsUnasked};
 ghost use Rattle.engine_answers.specs.Asking.{event_of};
-ghost use Rattle.engine_guarded.specs.Callers.{CallsWith, IsNews};
+ghost use Rattle.engine_guarded.specs.Callers.{CallsWith, IsStatus};
 ghost use Rattle.engine_guarded.specs.Running.{GoesOn, made};
 
 use crate::caller::Caller;
 use crate::entry::Entry;
 use crate::guarded::Guarded;
-use crate::news::News;
 use crate::rounds::Kind;
-use boxcar::Vec as Row;
+use crate::status::CallStatus;
+use boxcar::Vec as Entries;
 use engine_answers::Ask;
 use engine_history::Naming;
 use engine_history::node_laws::{Event, Out};
@@ -55,27 +55,27 @@ impl<J: Naming, D: CrashLog, P: CrashPages> Guarded<J, D, P> {
     fn make<R: Wait>(
         &mut self,
         rt: &R,
-        row: &Row<Entry>,
+        entries: &Entries<Entry>,
         caller: &mut Caller<J>,
         txn: u64,
         event: &Event,
         defers: bool,
         outs: &mut Outs,
-    ) -> News
-        requires row { row.now ≡ J.entries }
+    ) -> CallStatus
+        requires entries { entries.now ≡ J.entries }
         requires plain { is_command event.now ≡ false }
         requires sees { Sees (calls_of caller.old.number) caller.old.steps self.old.steps }
-        requires closed { IsClosed (part_of caller.old.number caller.old.steps) }
+        requires closed { IsClosed (calls_by caller.old.number caller.old.steps) }
         ensures caller { caller.new ≡ record { number = caller.old.number; steps = self.new.steps; busy = false } }
-        ensures calls { CallsWith event.now outs.new.call (part_of caller.old.number caller.old.steps) result
-            (part_of caller.old.number self.new.steps) }
+        ensures calls { CallsWith event.now outs.new.call (calls_by caller.old.number caller.old.steps) result
+            (calls_by caller.old.number self.new.steps) }
         ensures entered { is_pending outs.new.call ≡ false
             → self.new.steps ≡ self.old.steps ++ made (Some caller.old.number) event.now outs.new.call ∷ [] }
     {
         let Outs { call, line } = outs;
         self.call(rt, caller, event, call);
         self.go_on(rt, caller, txn, Kind::of(call), defers, line);
-        self.finish(rt, row, caller)
+        self.finish(rt, entries, caller)
     }
 
     /// A call of the session's transaction, if one is alive, as far as the node lets it come. A Commit that defers its
@@ -83,60 +83,60 @@ impl<J: Naming, D: CrashLog, P: CrashPages> Guarded<J, D, P> {
     pub fn ask<R: Wait>(
         &mut self,
         rt: &R,
-        row: &Row<Entry>,
+        entries: &Entries<Entry>,
         caller: &mut Caller<J>,
         ask: Ask,
         defers: bool,
         outs: &mut Outs,
-    ) -> Option<(u64, News)>
-        requires row { row.now ≡ J.entries }
+    ) -> Option<(u64, CallStatus)>
+        requires entries { entries.now ≡ J.entries }
         requires rest { caller.old.busy ≡ false }
-        requires closed { IsClosed (part_of caller.old.number caller.old.steps) }
+        requires closed { IsClosed (calls_by caller.old.number caller.old.steps) }
         ensures caller { caller.new ≡ record { number = caller.old.number; steps = self.new.steps; busy = false } }
-        ensures none { IfNone result (IsUnasked (part_of caller.old.number caller.old.steps)
-            (part_of caller.old.number self.new.steps)) }
-        ensures calls { IfSome result (λ made. ((part_of caller.old.number caller.old.steps).live ≡ Some made.0)
-            × CallsWith (event_of made.0 ask) outs.new.call (part_of caller.old.number caller.old.steps) made.1
-            (part_of caller.old.number self.new.steps)) }
+        ensures none { IfNone result (IsUnasked (calls_by caller.old.number caller.old.steps)
+            (calls_by caller.old.number self.new.steps)) }
+        ensures calls { IfSome result (λ made. ((calls_by caller.old.number caller.old.steps).live ≡ Some made.0)
+            × CallsWith (event_of made.0 ask) outs.new.call (calls_by caller.old.number caller.old.steps) made.1
+            (calls_by caller.old.number self.new.steps)) }
     {
-        self.see(row, caller);
+        self.see(entries, caller);
         let Some(txn) = self.live(caller) else {
-            self.finish(rt, row, caller);
+            self.finish(rt, entries, caller);
             return None;
         };
         let event = ask.into_event(txn);
-        let news = self.make(rt, row, caller, txn, &event, defers, outs);
-        Some((txn, news))
+        let status = self.make(rt, entries, caller, txn, &event, defers, outs);
+        Some((txn, status))
     }
 
     /// The call that begins a transaction, unless one is alive.
     pub fn begin<R: Wait>(
         &mut self,
         rt: &R,
-        row: &Row<Entry>,
+        entries: &Entries<Entry>,
         caller: &mut Caller<J>,
         outs: &mut Outs,
-    ) -> Option<News>
-        requires row { row.now ≡ J.entries }
+    ) -> Option<CallStatus>
+        requires entries { entries.now ≡ J.entries }
         requires rest { caller.old.busy ≡ false }
-        requires closed { IsClosed (part_of caller.old.number caller.old.steps) }
+        requires closed { IsClosed (calls_by caller.old.number caller.old.steps) }
         ensures caller { caller.new ≡ record { number = caller.old.number; steps = self.new.steps; busy = false } }
-        ensures none { IfNone result (IsSecond (part_of caller.old.number caller.old.steps)
-            (part_of caller.old.number self.new.steps)) }
-        ensures closed { IfNone result (IsClosed (part_of caller.old.number self.new.steps)) }
-        ensures alone { IfSome result (λ news. (part_of caller.old.number self.old.steps).live ≡ None) }
-        ensures entered { IfSome result (λ news. is_pending outs.new.call ≡ false
+        ensures none { IfNone result (IsSecond (calls_by caller.old.number caller.old.steps)
+            (calls_by caller.old.number self.new.steps)) }
+        ensures closed { IfNone result (IsClosed (calls_by caller.old.number self.new.steps)) }
+        ensures alone { IfSome result (λ status. (calls_by caller.old.number self.old.steps).live ≡ None) }
+        ensures entered { IfSome result (λ status. is_pending outs.new.call ≡ false
             → self.new.steps ≡ self.old.steps ++ made (Some caller.old.number) event.Begin outs.new.call ∷ []) }
-        ensures calls { IfSome result (λ news.
-            CallsWith event.Begin outs.new.call (part_of caller.old.number caller.old.steps) news
-            (part_of caller.old.number self.new.steps)) }
+        ensures calls { IfSome result (λ status.
+            CallsWith event.Begin outs.new.call (calls_by caller.old.number caller.old.steps) status
+            (calls_by caller.old.number self.new.steps)) }
     {
-        self.see(row, caller);
+        self.see(entries, caller);
         if let Some(_) = self.live(caller) {
-            self.finish(rt, row, caller);
+            self.finish(rt, entries, caller);
             return None;
         }
-        Some(self.make(rt, row, caller, 0, &Event::Begin, false, outs))
+        Some(self.make(rt, entries, caller, 0, &Event::Begin, false, outs))
     }
 
     /// Carries on a call of which nothing was told yet, as far as the node lets it come, also where a step of it has
@@ -144,24 +144,24 @@ impl<J: Naming, D: CrashLog, P: CrashPages> Guarded<J, D, P> {
     pub fn resume<R: Wait>(
         &mut self,
         rt: &R,
-        row: &Row<Entry>,
+        entries: &Entries<Entry>,
         caller: &mut Caller<J>,
         txn: u64,
         kind: Kind,
         outs: &mut Outs,
-    ) -> News
-        requires row { row.now ≡ J.entries }
+    ) -> CallStatus
+        requires entries { entries.now ≡ J.entries }
         requires rest { caller.old.busy ≡ false }
-        requires untold { line_of (part_of caller.old.number caller.old.steps).latest ≡ None }
+        requires untold { line_of (calls_by caller.old.number caller.old.steps).latest ≡ None }
         ensures caller { caller.new ≡ record { number = caller.old.number; steps = self.new.steps; busy = false } }
-        ensures news { IsNews (part_of caller.old.number caller.old.steps) (part_of caller.old.number self.new.steps)
+        ensures status { IsStatus (calls_by caller.old.number caller.old.steps) (calls_by caller.old.number self.new.steps)
             result }
         ensures call { outs.new.call ≡ outs.old.call }
     {
-        self.see(row, caller);
+        self.see(entries, caller);
         if !self.is_over(caller) {
             self.go_on(rt, caller, txn, kind, false, &mut outs.line);
         }
-        self.finish(rt, row, caller)
+        self.finish(rt, entries, caller)
     }
 }

@@ -12,7 +12,7 @@ ghost use Rattle.engine_guarded.specs.Running.{PassesFrom};
 use crate::caller::Caller;
 use crate::entry::Entry;
 use crate::guarded::Guarded;
-use boxcar::Vec as Row;
+use boxcar::Vec as Entries;
 use engine_history::{Naming, Step};
 use ghost_list::GhostList;
 use node_world::World;
@@ -80,25 +80,30 @@ impl<J: Naming, D: CrashLog, P: CrashPages> Closed<J, D, P> {
 // Each of these has seen all of its calls.
 fn see_all<J: Naming, D: CrashLog, P: CrashPages>(
     guarded: &mut Guarded<J, D, P>,
-    row: &Row<Entry>,
+    entries: &Entries<Entry>,
     callers: Vec<Caller<J>>,
 )
-    requires row { row.now ≡ J.entries }
+    requires entries { entries.now ≡ J.entries }
     requires idle { AllByRecursion IsIdle callers.items }
     ensures same { guarded.new ≡ guarded.old }
     ensures seen { AllByRecursion (HasSeenAll guarded.old.steps) callers.items }
 {
     for caller in callers {
         let mut caller = caller;
-        guarded.see(row, &mut caller);
+        guarded.see(entries, &mut caller);
     }
 }
 
 impl<J: Naming, D: CrashLog, P: CrashPages> Guarded<J, D, P> {
     /// The end, once every session is back, with what the engine kept itself: each session has seen all of its calls, and
     /// the engine all that it commanded. Every message is let go.
-    pub fn close(self, row: &Row<Entry>, callers: Vec<Caller<J>>, own: Caller<J>) -> Closed<J, D, P>
-        requires row { row.now ≡ J.entries }
+    pub fn close(
+        self,
+        entries: &Entries<Entry>,
+        callers: Vec<Caller<J>>,
+        own: Caller<J>,
+    ) -> Closed<J, D, P>
+        requires entries { entries.now ≡ J.entries }
         requires idle { AllByRecursion IsIdle callers.items }
         requires own { own.number ≡ J.sessions }
         requires rest { own.busy ≡ false }
@@ -108,8 +113,8 @@ impl<J: Naming, D: CrashLog, P: CrashPages> Guarded<J, D, P> {
         ensures commands { commands self.steps ≡ commands own.steps }
     {
         let (mut guarded, mut own) = (self, own);
-        see_all(&mut guarded, row, callers);
-        guarded.see(row, &mut own);
+        see_all(&mut guarded, entries, callers);
+        guarded.see(entries, &mut own);
         guarded.kept();
         guarded.into_closed()
     }

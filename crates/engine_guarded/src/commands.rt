@@ -10,7 +10,7 @@ ghost use Rattle.engine_guarded.specs.Running.{GoesOn};
 use crate::caller::Caller;
 use crate::entry::Entry;
 use crate::guarded::Guarded;
-use boxcar::Vec as Row;
+use boxcar::Vec as Entries;
 use engine_history::Naming;
 use engine_history::node_laws::{Event, Out};
 use record_key::Refusal;
@@ -22,32 +22,32 @@ impl<J: Naming, D: CrashLog, P: CrashPages> Guarded<J, D, P> {
     fn command<R: Wait>(
         &mut self,
         rt: &R,
-        row: &Row<Entry>,
+        entries: &Entries<Entry>,
         own: &mut Caller<J>,
         event: &Event,
         out: &mut Out,
     )
-        requires row { row.now ≡ J.entries }
+        requires entries { entries.now ≡ J.entries }
         requires own { own.old.number ≡ J.sessions }
         requires rest { own.old.busy ≡ false }
         requires command { is_command event.now ≡ true }
         ensures { Commanded J.sessions self.old own.old event.now out.new self.new own.new }
     {
         self.kept();
-        self.see(row, own);
+        self.see(entries, own);
         self.call(rt, own, event, out);
-        self.finish(rt, row, own);
+        self.finish(rt, entries, own);
     }
 
     /// The data component crashes. Nothing is kept that isn't stable.
     pub fn crash_dc<R: Wait>(
         &mut self,
         rt: &R,
-        row: &Row<Entry>,
+        entries: &Entries<Entry>,
         own: &mut Caller<J>,
         out: &mut Out,
     )
-        requires row { row.now ≡ J.entries }
+        requires entries { entries.now ≡ J.entries }
         requires own { own.old.number ≡ J.sessions }
         requires rest { own.old.busy ≡ false }
         ensures { Commanded J.sessions self.old own.old (event.CrashDc 0 0) out.new self.new own.new }
@@ -56,7 +56,7 @@ impl<J: Naming, D: CrashLog, P: CrashPages> Guarded<J, D, P> {
             frames: 0,
             bytes: 0,
         };
-        self.command(rt, row, own, &event, out);
+        self.command(rt, entries, own, &event, out);
     }
 
     /// The transaction component crashes, and every session's transaction is cut off. Of what isn't stable of the log so
@@ -64,35 +64,35 @@ impl<J: Naming, D: CrashLog, P: CrashPages> Guarded<J, D, P> {
     pub fn crash_tc<R: Wait>(
         &mut self,
         rt: &R,
-        row: &Row<Entry>,
+        entries: &Entries<Entry>,
         own: &mut Caller<J>,
         kept: u64,
         out: &mut Out,
     )
-        requires row { row.now ≡ J.entries }
+        requires entries { entries.now ≡ J.entries }
         requires own { own.old.number ≡ J.sessions }
         requires rest { own.old.busy ≡ false }
         ensures { CrashesTc J.sessions kept self.old own.old out.new self.new own.new }
     {
         let (frames, bytes) = self.world().cut_after(kept).unwrap_or((0, kept));
-        self.command(rt, row, own, &Event::CrashTc { frames, bytes }, out);
+        self.command(rt, entries, own, &Event::CrashTc { frames, bytes }, out);
     }
 
     /// The call of this number, from now on, of the device of the transaction component's log fails.
     pub fn fail_tc<R: Wait>(
         &mut self,
         rt: &R,
-        row: &Row<Entry>,
+        entries: &Entries<Entry>,
         own: &mut Caller<J>,
         call: u64,
         out: &mut Out,
     )
-        requires row { row.now ≡ J.entries }
+        requires entries { entries.now ≡ J.entries }
         requires own { own.old.number ≡ J.sessions }
         requires rest { own.old.busy ≡ false }
         ensures { Commanded J.sessions self.old own.old (event.FailTc call) out.new self.new own.new }
     {
-        self.command(rt, row, own, &Event::FailTc { call }, out);
+        self.command(rt, entries, own, &Event::FailTc { call }, out);
     }
 
     /// Brings both components up, in one session, and undoes who was lost; the engine has seen all steps then. Refused
@@ -100,11 +100,11 @@ impl<J: Naming, D: CrashLog, P: CrashPages> Guarded<J, D, P> {
     pub fn restart<R: Wait>(
         &mut self,
         rt: &R,
-        row: &Row<Entry>,
+        entries: &Entries<Entry>,
         own: &mut Caller<J>,
         out: &mut Out,
     ) -> Result<(), Refusal>
-        requires row { row.now ≡ J.entries }
+        requires entries { entries.now ≡ J.entries }
         requires own { own.old.number ≡ J.sessions }
         requires rest { own.old.busy ≡ false }
         ensures on { GoesOn self.old.steps self.new.steps }
@@ -113,10 +113,10 @@ impl<J: Naming, D: CrashLog, P: CrashPages> Guarded<J, D, P> {
         ensures refused { IfErr result IsOutage }
         ensures up { OnOk result (AreRunning self.new.node) }
     {
-        self.see(row, own);
+        self.see(entries, own);
         let up = self.bring_up(rt, out);
         self.kept();
-        self.finish(rt, row, own);
+        self.finish(rt, entries, own);
         up
     }
 }

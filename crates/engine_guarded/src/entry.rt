@@ -1,4 +1,4 @@
-//! What stands in the row.
+//! What is entered.
 ghost use Rattle.std.specs.Prelude.{◌≡◌, []};
 
 use engine_history::Step;

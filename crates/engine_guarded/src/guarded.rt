@@ -6,10 +6,10 @@ ghost use Rattle.std.specs.List.{AllByRecursion};
 ghost use Rattle.engine_history.specs.node_laws.specs.Stepping.{IsStep};
 ghost use Rattle.engine_history.specs.Kept.{calls_of};
 ghost use Rattle.engine_history.specs.Marking.{announced};
-ghost use Rattle.engine_history.specs.Sessions.{line_of, part_of};
+ghost use Rattle.engine_history.specs.Sessions.{line_of, calls_by};
 ghost use Rattle.engine_history.specs.Steps.{IsStart, node_at};
 ghost use Rattle.engine_history.specs.Views.{Sees};
-ghost use Rattle.engine_guarded.specs.Callers.{IsMade, IsNews, IsNewsOf, is_busy};
+ghost use Rattle.engine_guarded.specs.Callers.{IsMade, IsStatus, IsStatusOf, is_busy};
 ghost use Rattle.engine_guarded.specs.Slots.{Shown, seen};
 ghost use Rattle.engine_guarded.specs.Found.{IsOwned};
 ghost use Rattle.engine_guarded.specs.Places.{PlacesKept, place_after};
@@ -17,13 +17,13 @@ ghost use Rattle.engine_guarded.specs.Running.{PassesFrom, made};
 
 use crate::caller::Caller;
 use crate::entry::Entry;
-use crate::news::News;
 use crate::noting::{again, with_call, with_step};
 use crate::pace::Pace;
 use crate::place::Place;
-use crate::row::pushed;
+use crate::published::pushed;
+use crate::status::CallStatus;
 use crate::stepping::stepped;
-use boxcar::{Pushed, Vec as Row};
+use boxcar::{Pushed, Vec as Entries};
 use engine_history::node_laws::{Event, Out};
 use engine_history::{Naming, Step};
 use ghost_list::GhostList;
@@ -72,31 +72,31 @@ fn hear_all<R: Wait>(rt: &R, places: &mut Vec<Place>, caller: Option<u64>, event
 }
 
 // What a place has for its session.
-fn news_of(place: &mut Place) -> News
-    ensures news { IsNewsOf place.old result }
+fn status_of(place: &mut Place) -> CallStatus
+    ensures status { IsStatusOf place.old result }
     ensures left { place.new ≡ record place.old { line = None } }
 {
     if let Some(heard) = place.line.take() {
-        return News::Told(heard);
+        return CallStatus::Told(heard);
     }
     if place.live.is_none() {
-        return News::CutOff;
+        return CallStatus::CutOff;
     }
     match place.failed {
-        Some(failure) => News::Refused(failure),
-        None => News::Nothing,
+        Some(failure) => CallStatus::Refused(failure),
+        None => CallStatus::Nothing,
     }
 }
 
-// Where a session isn't amid a call, so that the tie's number isn't 0, both sides have seen the same entry.
-fn same_seen(row: &Row<Entry>, one: &Pushed<Entry>, other: &Pushed<Entry>, number: u64)
-    requires one { Shown row.now one.now }
-    requires other { Shown row.now other.now }
-    requires tied { is_busy number ≡ false → one.now.index ≡ other.now.index }
+// Where a session isn't amid a call, so that the agreement's number isn't 0, both sides have seen the same entry.
+fn same_seen(entries: &Entries<Entry>, one: &Pushed<Entry>, other: &Pushed<Entry>, number: u64)
+    requires one { Shown entries.now one.now }
+    requires other { Shown entries.now other.now }
+    requires agreed { is_busy number ≡ false → one.now.index ≡ other.now.index }
     ensures { is_busy number ≡ false → seen one.now ≡ seen other.now }
 {
     if number > 0 {
-        row.agrees(one, other);
+        entries.agrees(one, other);
     }
 }
 
@@ -195,12 +195,12 @@ impl<J: Naming, D: CrashLog, P: CrashPages> Guarded<J, D, P> {
         *steps = with_call(steps, *number, event, out);
         hear_all(rt, places, Some(*number), event, out);
         let place = &mut places[*number as usize];
-        place.book.set(mark, 0);
+        place.far_end.set(mark, 0);
     }
 
     /// A session that isn't amid a call has seen all of its calls.
-    pub fn see(&mut self, row: &Row<Entry>, caller: &mut Caller<J>)
-        requires row { row.now ≡ J.entries }
+    pub fn see(&mut self, entries: &Entries<Entry>, caller: &mut Caller<J>)
+        requires entries { entries.now ≡ J.entries }
         requires rest { caller.old.busy ≡ false }
         ensures same { self.new ≡ self.old }
         ensures caller { caller.new ≡ caller.old }
@@ -221,19 +221,24 @@ impl<J: Naming, D: CrashLog, P: CrashPages> Guarded<J, D, P> {
             of: _,
         } = caller;
         let place = &mut places[*number as usize];
-        place.book.agree(mark);
-        row.agrees(&place.last, last);
+        place.far_end.agree(mark);
+        entries.agrees(&place.last, last);
     }
 
     /// The session has seen all steps, by an entry of its own; and what is new of its latest call.
-    pub fn finish<R: Wait>(&mut self, rt: &R, row: &Row<Entry>, caller: &mut Caller<J>) -> News
-        requires row { row.now ≡ J.entries }
+    pub fn finish<R: Wait>(
+        &mut self,
+        rt: &R,
+        entries: &Entries<Entry>,
+        caller: &mut Caller<J>,
+    ) -> CallStatus
+        requires entries { entries.now ≡ J.entries }
         ensures same { self.new ≡ self.old }
         ensures caller { caller.new ≡ record { number = caller.old.number; steps = self.old.steps; busy = false } }
         ensures amid { caller.old.busy ≡ true → (before : List Step) → IsMade caller.old.number before self.old.steps
-            → IsNews (part_of caller.old.number before) (part_of caller.old.number self.old.steps) result }
-        ensures resting { caller.old.busy ≡ false → line_of (part_of caller.old.number caller.old.steps).latest ≡ None
-            → IsNews (part_of caller.old.number caller.old.steps) (part_of caller.old.number self.old.steps) result }
+            → IsStatus (calls_by caller.old.number before) (calls_by caller.old.number self.old.steps) result }
+        ensures resting { caller.old.busy ≡ false → line_of (calls_by caller.old.number caller.old.steps).latest ≡ None
+            → IsStatus (calls_by caller.old.number caller.old.steps) (calls_by caller.old.number self.old.steps) result }
     {
         let Guarded {
             world: _,
@@ -254,21 +259,21 @@ impl<J: Naming, D: CrashLog, P: CrashPages> Guarded<J, D, P> {
             before: last.index() as u64 + 1,
             past: again(steps),
         };
-        let token = pushed(rt, row, entry);
+        let token = pushed(rt, entries, entry);
         let place = &mut places[*number as usize];
-        place.book.agree(mark);
-        same_seen(row, &place.last, last, mark.number());
-        place.book.set(mark, token.index() as u64 + 1);
+        place.far_end.agree(mark);
+        same_seen(entries, &place.last, last, mark.number());
+        place.far_end.set(mark, token.index() as u64 + 1);
         place.last = token.again();
         *last = token;
-        let news = news_of(place);
+        let status = status_of(place);
         place.failed = None;
-        news
+        status
     }
 
     /// The transaction of a session, if one is alive.
     pub fn live(&self, caller: &Caller<J>) -> Option<u64>
-        ensures { result ≡ (part_of caller.now.number self.now.steps).live }
+        ensures { result ≡ (calls_by caller.now.number self.now.steps).live }
     {
         self.places[caller.number as usize].live
     }
@@ -285,7 +290,7 @@ impl<J: Naming, D: CrashLog, P: CrashPages> Guarded<J, D, P> {
     }
 
     /// Whether a session has something to see: its call was told of or cut off, or a step of it failed.
-    pub fn has_news(&self, caller: &Caller<J>) -> bool {
+    pub fn must_look(&self, caller: &Caller<J>) -> bool {
         let place = &self.places[caller.number as usize];
         place.line.is_some() || place.live.is_none() || place.failed.is_some()
     }

@@ -1,7 +1,7 @@
 //! What a step is to a transaction.
 ghost use Rattle.std.specs.Prelude.{◌≡◌};
 ghost use Rattle.history.specs.History.{is_among};
-ghost use Rattle.engine_history.specs.Errands.{errand_of, is_commit_logged, sent_on, serves};
+ghost use Rattle.engine_history.specs.InFlightCalls.{in_flight_of, is_commit_logged, sent_on, serves};
 ghost use Rattle.engine_history.specs.Failing.{failure_of};
 ghost use Rattle.engine_history.specs.Sessions.{cuts_off, is_pending, live_after};
 ghost use Rattle.engine_history.specs.node_sides.specs.tc_core.specs.Replies.{is_number};
@@ -10,7 +10,7 @@ ghost use Rattle.engine_guarded.specs.Hearing.{heard_to, heard_if};
 use crate::heard::Heard;
 use codec::Rows;
 use engine_history::node_laws::{Event, Out};
-use engine_history::{Errand, Failure, copied_value};
+use engine_history::{Failure, InFlight, copied_value};
 use record_key::Refusal;
 use std::sync::Wait;
 use std::thread;
@@ -71,42 +71,42 @@ fn is_number(message: Option<u64>, number: u64) -> bool
 }
 
 /// Whether a step is made for this transaction.
-pub(crate) fn serves(txn: u64, errand: &Errand, event: &Event) -> bool
-    ensures { result ≡ serves txn errand.now event.now }
+pub(crate) fn serves(txn: u64, in_flight: &InFlight, event: &Event) -> bool
+    ensures { result ≡ serves txn in_flight.now event.now }
 {
     match event {
         Event::Send { txn: of } | Event::Undo { txn: of } => *of == txn,
-        Event::Request { number } => is_number(errand.request, *number),
-        Event::Reply { number } => is_number(errand.reply, *number),
-        Event::Force => errand.commits,
+        Event::Request { number } => is_number(in_flight.request, *number),
+        Event::Reply { number } => is_number(in_flight.reply, *number),
+        Event::Force => in_flight.commits,
         _ => false,
     }
 }
 
 /// What is on its way after a step that was made for a transaction.
-pub(crate) fn sent_on(errand: Errand, out: &Out) -> Errand
-    ensures { result ≡ sent_on errand out.now }
+pub(crate) fn sent_on(in_flight: InFlight, out: &Out) -> InFlight
+    ensures { result ≡ sent_on in_flight out.now }
 {
     match out {
-        Out::Sent(number) => Errand {
+        Out::Sent(number) => InFlight {
             request: Some(*number),
             reply: None,
-            commits: errand.commits,
+            commits: in_flight.commits,
         },
-        Out::Replied(number) => Errand {
-            request: errand.request,
+        Out::Replied(number) => InFlight {
+            request: in_flight.request,
             reply: Some(*number),
-            commits: errand.commits,
+            commits: in_flight.commits,
         },
-        _ => errand,
+        _ => in_flight,
     }
 }
 
 /// What is on its way for a call that came to this: nothing is sent yet.
-pub(crate) fn errand_of(out: &Out) -> Errand
-    ensures { result ≡ errand_of out.now }
+pub(crate) fn in_flight_of(out: &Out) -> InFlight
+    ensures { result ≡ in_flight_of out.now }
 {
-    Errand {
+    InFlight {
         request: None,
         reply: None,
         commits: is_commit_logged(out),

@@ -2,8 +2,8 @@
 //!
 //! Knows: a node, and who called what.
 //! Must not know: threads, what a client is answered, or how the node keeps its state.
-//! Promises the next crate: what lies under the lock is what its steps leave, which are a run of the node; a session's part
-//! of them has just the calls that it made, each with the first line told of it.
+//! Promises the next crate: what lies under the lock is what its steps leave, which are a run of the node; a session's
+//! calls among them are just those that it made, each with the first line told of it.
 #![tactic(auto)]
 
 mod caller;
@@ -16,12 +16,12 @@ mod entry;
 mod guarded;
 mod heard;
 mod hearing;
-mod news;
 mod noting;
 mod pace;
 mod place;
+mod published;
 mod rounds;
-mod row;
+mod status;
 mod stepping;
 
 pub use caller::Caller;
@@ -30,10 +30,10 @@ pub use closed::Closed;
 pub use entry::Entry;
 pub use guarded::Guarded;
 pub use heard::Heard;
-pub use news::News;
 pub use place::Place;
+pub use published::{Published, pushed};
 pub use rounds::Kind;
-pub use row::{Entries, pushed};
+pub use status::CallStatus;
 
 // What a crate above names of those below.
 pub use engine_answers;

@@ -9,26 +9,26 @@ ghost use Rattle.engine_guarded.specs.Slots.{Shown};
 use crate::entry::Entry;
 use crate::heard::Heard;
 use crate::hearing::{
-    cuts_off, errand_of, failure_of, heard_to, is_pending, live_after, sent_on, serves,
+    cuts_off, failure_of, heard_to, in_flight_of, is_pending, live_after, sent_on, serves,
 };
 use boxcar::Pushed;
-use engine_agreement::Book;
+use engine_agreement::FarEnd;
 use engine_history::node_laws::{Event, Out};
-use engine_history::{Errand, Failure, Naming};
+use engine_history::{Failure, InFlight, Naming};
 use std::sync::Wait;
 
-/// A session's place: the entry that it has seen last, which is tied to what the session keeps; the transaction whose lines
+/// A session's place: the entry that it has seen last, which agrees with what the session keeps; the transaction whose lines
 /// are the session's, whether its latest call is still to be told of, and what was told of that since; what is on its way
 /// for that call, and what a step of it failed by since.
 #[derive(Drop)]
 pub struct Place {
     pub(crate) number: u64,
-    pub(crate) book: Book,
+    pub(crate) far_end: FarEnd,
     pub(crate) last: Pushed<Entry>,
     pub(crate) live: Option<u64>,
     pub(crate) awaits: bool,
     pub(crate) line: Option<Heard>,
-    pub(crate) errand: Errand,
+    pub(crate) in_flight: InFlight,
     pub(crate) failed: Option<Failure>,
 }
 
@@ -44,21 +44,21 @@ fn is_call_of(caller: Option<u64>, session: u64) -> bool
 
 impl Place {
     /// The place of a session that has seen what stood before the first call.
-    pub fn new<J: Naming>(number: u64, book: Book, last: Pushed<Entry>) -> Place
-        requires name { book.name ≡ J.names (number + 2) }
-        requires start { book.number ≡ last.index + 1 }
+    pub fn new<J: Naming>(number: u64, far_end: FarEnd, last: Pushed<Entry>) -> Place
+        requires name { far_end.name ≡ J.names (number + 2) }
+        requires start { far_end.number ≡ last.index + 1 }
         requires shown { Shown J.entries last }
         requires empty { last.value.past.items ≡ [] }
         ensures { PlaceKept J.entries J.names [] number result }
     {
         Place {
             number,
-            book,
+            far_end,
             last,
             live: None,
             awaits: false,
             line: None,
-            errand: Errand {
+            in_flight: InFlight {
                 request: None,
                 reply: None,
                 commits: false,
@@ -74,7 +74,7 @@ impl Place {
         self.live = live_after(self.live, out);
         self.awaits = is_pending(out);
         self.line = None;
-        self.errand = errand_of(out);
+        self.in_flight = in_flight_of(out);
         self.failed = None;
     }
 
@@ -83,13 +83,13 @@ impl Place {
         requires { self.old.live ≡ Some txn }
         ensures { self.new ≡ place_worked event.now out.now self.old }
     {
-        if !serves(txn, &self.errand, event) {
+        if !serves(txn, &self.in_flight, event) {
             return;
         }
         if let Some(failure) = failure_of(out) {
             self.failed = Some(failure);
         }
-        self.errand = sent_on(self.errand, out);
+        self.in_flight = sent_on(self.in_flight, out);
     }
 
     /// A line is told to it, if one is. Only the first one told of a call counts.
@@ -130,7 +130,7 @@ impl Place {
         if self.live.is_none() || !self.awaits {
             return false;
         }
-        self.errand.request.is_some() || self.errand.reply.is_some()
+        self.in_flight.request.is_some() || self.in_flight.reply.is_some()
     }
 
     /// Whether no transaction of its session is alive, and nothing was told that the session hasn't seen.

@@ -69,18 +69,18 @@ impl<J: Naming, D: CrashLog, P: CrashPages> Guarded<J, D, P> {
         self.took(out)
     }
 
-    // One compensation of a rollback, with its answer: whether the session has no news yet, and it was answered.
+    // One compensation of a rollback, with its answer: whether nothing was told yet, and it was answered.
     fn undo_one<R: Wait>(&mut self, rt: &R, caller: &Caller<J>, txn: u64, out: &mut Out) -> bool
         ensures on { GoesOn self.old.steps self.new.steps }
     {
         self.step(rt, &Event::Undo { txn }, out);
-        if self.has_news(caller) || !self.exchange(rt, &Event::Send { txn }, out) {
+        if self.must_look(caller) || !self.exchange(rt, &Event::Send { txn }, out) {
             return false;
         }
-        !self.has_news(caller)
+        !self.must_look(caller)
     }
 
-    // The compensations of a rollback, each answered before the next, until the session has news or one isn't answered.
+    // The compensations of a rollback, each answered before the next, until something was told or one isn't answered.
     fn undo<R: Wait>(&mut self, rt: &R, caller: &Caller<J>, txn: u64, out: &mut Out)
         ensures on { GoesOn self.old.steps self.new.steps }
     {

@@ -8,7 +8,7 @@ use Rattle.node_sides.specs.node_laws.specs.declared.event.Event.{Event}
 use Rattle.node_sides.specs.node_laws.specs.declared.event.Event.TheVariants as event
 use Rattle.engine_history.specs.declared.step.Step.{Step}
 use Rattle.engine_history.specs.Commands.{is_command, commands_it, commands, OwnKept}
-use Rattle.engine_history.specs.Desks.{delivers}
+use Rattle.engine_history.specs.Latched.{delivers}
 use Rattle.engine_history.specs.Steps.{events}
 use Rattle.engine_history.specs.Views.{View, Sees}
 use Rattle.engine_history.proofs.Entering.{sees_all, sees_snoc}

@@ -2,7 +2,7 @@
 use Rattle.std.proofs.Common.{List, [], ◌∷◌, ◌++◌, Option, Some, None, refl, ap, sym, ◌∙◌, append_assoc}
 use Rattle.std.proofs.lemmas.List.{append-nil}
 use Rattle.node_sides.specs.node_laws.specs.Halves.{also}
-use Rattle.engine_history.specs.Errands.{FailsSince}
+use Rattle.engine_history.specs.InFlightCalls.{FailsSince}
 use Rattle.engine_history.specs.Kept.{later_failure}
 use Rattle.engine_history.specs.declared.failure.Failure.{Failure}
 

@@ -2,7 +2,7 @@ pub mod Sent
 pub mod Lists
 pub mod Along
 pub mod Failures
-pub mod Parts
+pub mod NextCalls
 pub mod Entering
 pub mod Marking
 pub mod Stable

@@ -12,7 +12,7 @@ use Rattle.node_sides.specs.node_laws.specs.declared.event.Out.TheVariants as ou
 use Rattle.node_sides.specs.node_laws.specs.Component.{TcSide}
 use Rattle.node_sides.specs.node_laws.specs.Halves.{of_tc, TcLeads}
 use Rattle.engine_history.specs.declared.step.Step.{Step}
-use Rattle.engine_history.specs.Desks.{SeatKept}
+use Rattle.engine_history.specs.Latched.{SeatKept}
 use Rattle.engine_history.specs.Marking.{low_of, announced, announced_after, IsLowOf}
 use Rattle.engine_history.specs.Steps.{is_tc}
 use Rattle.engine_history.specs.Views.{Sees}

@@ -10,7 +10,7 @@ use Rattle.node_sides.specs.node_laws.specs.Component.{TcSide, DcSide}
 use Rattle.node_sides.specs.node_laws.specs.Halves.{TcLeads, DcLeads, BringsReply, BringsRequest, IsInNode}
 use Rattle.node_sides.specs.node_laws.specs.Messages.{message_at}
 use Rattle.engine_history.specs.declared.step.Step.{Step}
-use Rattle.engine_history.specs.Desks.{delivers, TcDeskKept, DcDeskKept}
+use Rattle.engine_history.specs.Latched.{delivers, LatchedTcKept, LatchedDcKept}
 use Rattle.engine_history.specs.Kept.{is_dc, HandsReply, HandsRequest, EntersTc, EntersDc, IsInRun, IsSentBy}
 use Rattle.engine_history.specs.Steps.{is_tc, requests, replies, TcState, DcState, Start, count, GivesTc, GivesDc}
 use Rattle.engine_history.specs.Views.{View, Sees}
@@ -98,8 +98,8 @@ tc_goes_with start before steps side next sent after e number given reply sees g
     (tc_on start before steps (record { side = side; sent = sent }) sees gives) is leads (by.found ∙ sym by.is ∙ has) tt n none
 
 pub tc_kept_on : (start : Start) (names : ℕ → ℕ) (marks : TableId) (old new : View) (state : TcState) (seat : Seen)
-    → TcDeskKept start names marks old state seat → new.name ≡ old.name → Sees is_tc old.steps new.steps
-    → TcDeskKept start names marks new state seat
+    → LatchedTcKept start names marks old state seat → new.name ≡ old.name → Sees is_tc old.steps new.steps
+    → LatchedTcKept start names marks new state seat
 tc_kept_on start names marks old new state seat k name sees = record {
   name = name ∙ k.name;
   gives = tc_on start old.steps new.steps state sees k.gives;
@@ -149,8 +149,8 @@ dc_goes_with start before steps side next given after e number request sees give
     (dc_on start before steps (record { side = side; given = given }) sees gives) is leads (by.found ∙ sym by.is)
     (has_some number request by.value by.is) n none
 
-pub dc_kept_on : (start : Start) (names : ℕ → ℕ) (old new : View) (state : DcState) → DcDeskKept start names old state
-    → new.name ≡ old.name → Sees is_dc old.steps new.steps → DcDeskKept start names new state
+pub dc_kept_on : (start : Start) (names : ℕ → ℕ) (old new : View) (state : DcState) → LatchedDcKept start names old state
+    → new.name ≡ old.name → Sees is_dc old.steps new.steps → LatchedDcKept start names new state
 dc_kept_on start names old new state k name sees =
     record { name = name ∙ k.name; gives = dc_on start old.steps new.steps state sees k.gives }
 

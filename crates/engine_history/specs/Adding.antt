@@ -1,4 +1,4 @@
--- What a call of a desk adds to what its component did.
+-- What a call of a latched component adds to what the component did.
 use Rattle.std.specs.Prelude.{◌≡◌, ℕ, Bool, List, Some}
 use Rattle.node_sides.specs.node_laws.specs.Messages.{message_at}
 use Rattle.engine_history.specs.declared.step.Step.{Step}

@@ -21,7 +21,7 @@ commands_it e = is_command e.event
 abbrev pub commands : List Step → List Event
 commands es = events (filter commands_it es)
 
--- the journal's side of what the engine itself has seen: all of these
+-- the history's side of what the engine itself has seen: all of these
 pub record OwnKept (names : ℕ → ℕ) (es : List Step) (own : View) : Type 0 where
   pub name : own.name ≡ names 2
   pub sees : Sees commands_it own.steps es

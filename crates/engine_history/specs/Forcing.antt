@@ -4,7 +4,7 @@ use Rattle.boxcar.specs.Table.{Shelves}
 use Rattle.node_sides.specs.node_laws.specs.declared.event.Event.TheVariants as event
 use Rattle.node_sides.specs.tc_core.specs.LowWater.{IsGreatestAnnounced}
 use Rattle.engine_history.specs.Adding.{AddsEntry}
-use Rattle.engine_history.specs.Desks.{TcFound}
+use Rattle.engine_history.specs.Latched.{TcFound}
 use Rattle.engine_history.specs.Marking.{announced, tells_commit}
 use Rattle.engine_history.specs.Slots.{Slot, Shown}
 use Rattle.engine_history.specs.Steps.{is_tc, Start, GivesTc}
@@ -41,10 +41,10 @@ Tells start true old None low new = ⊥
 Tells start true old (Some p) low new = TellsBy start old p low new
 
 -- the log was made stable; what was to be told of that, and what was to be announced then, was so by these entries
-pub record Forces (start : Start) (row : Shelves) (old : TcFound) (tell low : Option Slot) (new : TcFound)
+pub record Forces (start : Start) (entries : Shelves) (old : TcFound) (tell low : Option Slot) (new : TcFound)
     : Type 0 where
   pub entry : Slot
-  pub shown : Shown row entry
+  pub shown : Shown entries entry
   pub event_is : entry.value.step.value.event ≡ event.Force
   pub mid : TcFound
   pub added : AddsEntry is_tc old.steps entry mid.steps

@@ -1,4 +1,4 @@
--- What holds of the journal whenever its lock is free.
+-- What holds of the history whenever its lock is free.
 use Rattle.std.specs.Prelude.{◌≡◌, ℕ, ◌+◌, Bool, true, false, cond, List, Option, Some, None, filter, not, slice_get, ⊤}
 use Rattle.std.specs.List.{AllByRecursion}
 use Rattle.boxcar.specs.Table.{Shelves}
@@ -17,8 +17,8 @@ use Rattle.node_sides.specs.node_laws.specs.Component.{DcSide}
 use Rattle.node_sides.specs.node_laws.specs.Messages.{message_at}
 use Rattle.node_sides.specs.node_laws.specs.Node.{NodeView, dc_side}
 use Rattle.engine_history.specs.Steps.{is_tc, requests, replies, Start, IsStart, TcState, DcState, TcStep, DcStep, GivesTc, GivesDc, RunsTo}
-use Rattle.engine_history.specs.Errands.{errand_after, fails, FailsSince}
-use Rattle.engine_history.specs.Sessions.{part_of, calls_as, pending, line_of, line_to, line_for, ends, cuts_off}
+use Rattle.engine_history.specs.InFlightCalls.{in_flight_after, fails, FailsSince}
+use Rattle.engine_history.specs.Sessions.{calls_by, calls_as, pending, line_of, line_to, line_for, ends, cuts_off}
 use Rattle.engine_history.specs.Slots.{Slot, steps, asks, gives, seen, Shown, IsShown, last_of}
 use Rattle.engine_history.specs.Views.{View, Sees}
 
@@ -33,23 +33,23 @@ abbrev pub IsLine : Option Line → Option Slot → Type 0
 IsLine line None = line ≡ None
 IsLine line (Some p) = (t : ℕ) × ((l : Line) × (line ≡ Some l) × (line_to t p.value.step.value.out ≡ Some l))
 
--- what the journal keeps of a session
-pub record PlaceKept {J : Type 0} (row : Shelves) (names : ℕ → ℕ) (es : List Step) (s : ℕ) (p : Place J)
+-- what the history keeps of a session
+pub record PlaceKept {J : Type 0} (entries : Shelves) (names : ℕ → ℕ) (es : List Step) (s : ℕ) (p : Place J)
     : Type 0 where
   pub number : p.number ≡ s
-  pub name : p.party.name ≡ names (s + 3)
-  pub sees : Sees (calls_of s) p.party.steps es
-  pub live : p.live ≡ (part_of s es).live
-  pub awaits : p.awaits ≡ pending (part_of s es).latest
-  pub shown : IsShown row p.line
-  pub line : IsLine (line_of (part_of s es).latest) p.line
-  pub errand : p.errand ≡ (part_of s es).errand
-  pub failed : FailsSince (part_of s p.party.steps).failures (part_of s es).failures p.failed
+  pub name : p.cursor_end.name ≡ names (s + 3)
+  pub sees : Sees (calls_of s) p.cursor_end.steps es
+  pub live : p.live ≡ (calls_by s es).live
+  pub awaits : p.awaits ≡ pending (calls_by s es).latest
+  pub shown : IsShown entries p.line
+  pub line : IsLine (line_of (calls_by s es).latest) p.line
+  pub in_flight : p.in_flight ≡ (calls_by s es).in_flight
+  pub failed : FailsSince (calls_by s p.cursor_end.steps).failures (calls_by s es).failures p.failed
 
 -- the place of each session
 abbrev pub PlacesKept : {J : Type 0} → Shelves → (ℕ → ℕ) → List Step → List (Place J) → Type 0
-PlacesKept {J} row names es places =
-    (s : ℕ) (p : Place J) → slice_get places s ≡ Some p → PlaceKept row names es s p
+PlacesKept {J} entries names es places =
+    (s : ℕ) (p : Place J) → slice_get places s ≡ Some p → PlaceKept entries names es s p
 
 abbrev pub is_end : Told → Bool
 is_end is.End = true
@@ -86,8 +86,8 @@ later_failure was (Some f) = Some f
 -- what a place is after a step that may have been made for its transaction
 abbrev pub place_worked : {J : Type 0} → Event → Out → Place J → Place J
 place_worked e o p = record p {
-  errand = errand_after p.live p.errand e o;
-  failed = later_failure p.failed (fails p.live p.errand e o);
+  in_flight = in_flight_after p.live p.in_flight e o;
+  failed = later_failure p.failed (fails p.live p.in_flight e o);
 }
 
 abbrev pub place_heard : {J : Type 0} → Event → Out → Slot → Place J → Place J
@@ -101,9 +101,9 @@ place_after token p =
     (place_heard token.value.step.value.event token.value.step.value.out token p)
 
 -- what the entries give, in order; the tokens of those that sent a message; and what the components have seen
-pub record LinesKept (start : Start) (row : Shelves) (names : ℕ → ℕ) (tokens asked given : List Slot) (tc dc : View)
+pub record LinesKept (start : Start) (entries : Shelves) (names : ℕ → ℕ) (tokens asked given : List Slot) (tc dc : View)
     : Type 0 where
-  pub shown : AllByRecursion (Shown row) tokens
+  pub shown : AllByRecursion (Shown entries) tokens
   pub last : seen (last_of tokens) ≡ steps tokens
   pub asked_are : asked ≡ filter asks tokens
   pub given_are : given ≡ filter gives tokens

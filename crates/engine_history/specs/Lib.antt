@@ -7,14 +7,14 @@ pub mod Adding
 pub mod Witnessed
 pub mod Kept
 pub mod Callers
-pub mod Desks
+pub mod Latched
 pub mod Waiting
 pub mod Marking
 pub mod Forcing
 pub mod Ending
 pub mod Closing
 pub mod Failing
-pub mod Errands
+pub mod InFlightCalls
 pub mod Messages
 pub mod KeptEvents
 pub mod KeptOuts

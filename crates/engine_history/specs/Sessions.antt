@@ -1,4 +1,4 @@
--- A session's part of the entries: its calls, in order, each with its output and the first line told of it; and what the
+-- A session's calls of the entries, in order, each with its output and the first line told of it; and what the
 -- steps that were made for the latest of them failed by.
 use Rattle.std.specs.Prelude.{◌≡◌, ◌⊎◌, ℕ, ◌==◌, Bool, true, false, cond, List, [], ◌∷◌, ◌++◌, Option, Some, None}
 use Rattle.history.specs.History.{is_among}
@@ -7,8 +7,8 @@ use Rattle.node_sides.specs.node_laws.specs.declared.event.Event.{Event}
 use Rattle.node_sides.specs.node_laws.specs.declared.event.Event.TheVariants as event
 use Rattle.node_sides.specs.node_laws.specs.declared.event.Out.{Out}
 use Rattle.node_sides.specs.node_laws.specs.declared.event.Out.TheVariants as out
-use Rattle.engine_history.specs.Errands.{errand_after, errand_of, fails, no_errand}
-use Rattle.engine_history.specs.declared.errand.Errand.{Errand}
+use Rattle.engine_history.specs.InFlightCalls.{in_flight_after, in_flight_of, fails, none_in_flight}
+use Rattle.engine_history.specs.declared.in_flight.InFlight.{InFlight}
 use Rattle.engine_history.specs.declared.failure.Failure.{Failure}
 use Rattle.engine_history.specs.declared.step.Step.{Step}
 use Rattle.node_sides.specs.node_laws.specs.Halves.{also}
@@ -21,11 +21,11 @@ pub record SessionCall : Type 0 where
 
 -- the transaction whose lines are the session's, its calls before the latest, and that one; what is on its way for that,
 -- and what its steps failed by, in order
-pub record Part : Type 0 where
+pub record SessionCalls : Type 0 where
   pub live : Option ℕ
   pub before : List SessionCall
   pub latest : Option SessionCall
-  pub errand : Errand
+  pub in_flight : InFlight
   pub failures : List Failure
 
 abbrev pub with_latest : List SessionCall → Option SessionCall → List SessionCall
@@ -33,8 +33,8 @@ with_latest before None = before
 with_latest before (Some c) = before ++ c ∷ []
 
 -- a session's calls, in order
-abbrev pub calls : Part → List SessionCall
-calls part = with_latest part.before part.latest
+abbrev pub call_list : SessionCalls → List SessionCall
+call_list calls = with_latest calls.before calls.latest
 
 abbrev pub calls_as : Option ℕ → ℕ → Bool
 calls_as None s = false
@@ -106,33 +106,33 @@ ends _ = false
 abbrev pub called_as : Event → Out → Option Line → SessionCall
 called_as e o line = record { event = e; out = o; line = line }
 
-abbrev pub hears : Part → Option Line → Part
-hears part None = part
-hears part (Some line) = record {
-  live = cond (ends line) None part.live;
-  before = part.before;
-  latest = told_of part.latest line;
-  errand = part.errand;
-  failures = part.failures;
+abbrev pub hears : SessionCalls → Option Line → SessionCalls
+hears calls None = calls
+hears calls (Some line) = record {
+  live = cond (ends line) None calls.live;
+  before = calls.before;
+  latest = told_of calls.latest line;
+  in_flight = calls.in_flight;
+  failures = calls.failures;
 }
 
 -- a step that was made for the transaction goes on, or fails
-abbrev pub worked : Part → Event → Out → Part
-worked part e o = record {
-  live = part.live;
-  before = part.before;
-  latest = part.latest;
-  errand = errand_after part.live part.errand e o;
-  failures = also part.failures (fails part.live part.errand e o);
+abbrev pub worked : SessionCalls → Event → Out → SessionCalls
+worked calls e o = record {
+  live = calls.live;
+  before = calls.before;
+  latest = calls.latest;
+  in_flight = in_flight_after calls.live calls.in_flight e o;
+  failures = also calls.failures (fails calls.live calls.in_flight e o);
 }
 
-abbrev pub cut : Part → Part
-cut part = record {
+abbrev pub cut : SessionCalls → SessionCalls
+cut calls = record {
   live = None;
-  before = part.before;
-  latest = part.latest;
-  errand = part.errand;
-  failures = part.failures;
+  before = calls.before;
+  latest = calls.latest;
+  in_flight = calls.in_flight;
+  failures = calls.failures;
 }
 
 -- a crash of the transaction component cuts every session's transaction off
@@ -140,36 +140,36 @@ abbrev pub cuts_off : Event → Bool
 cuts_off (event.CrashTc frames bytes) = true
 cuts_off _ = false
 
-abbrev pub heard : Part → Event → Out → Part
-heard part e o = cond (cuts_off e) (cut part) (hears (worked part e o) (line_for part.live o))
+abbrev pub heard : SessionCalls → Event → Out → SessionCalls
+heard calls e o = cond (cuts_off e) (cut calls) (hears (worked calls e o) (line_for calls.live o))
 
-abbrev pub called : Part → Event → Out → Part
-called part e o = record {
-  live = live_after part.live o;
-  before = calls part;
+abbrev pub called : SessionCalls → Event → Out → SessionCalls
+called calls e o = record {
+  live = live_after calls.live o;
+  before = call_list calls;
   latest = Some (called_as e o None);
-  errand = errand_of o;
+  in_flight = in_flight_of o;
   failures = [];
 }
 
--- a session's part after one more step
-abbrev pub next_part : ℕ → Part → Step → Part
-next_part s part e = cond (calls_as e.caller s) (called part e.event e.out) (heard part e.event e.out)
+-- a session's calls after one more step
+abbrev pub next_calls : ℕ → SessionCalls → Step → SessionCalls
+next_calls s calls e = cond (calls_as e.caller s) (called calls e.event e.out) (heard calls e.event e.out)
 
-abbrev pub part_after : ℕ → Part → List Step → Part
-part_after s part [] = part
-part_after s part (e ∷ es) = part_after s (next_part s part e) es
+abbrev pub calls_after : ℕ → SessionCalls → List Step → SessionCalls
+calls_after s calls [] = calls
+calls_after s calls (e ∷ es) = calls_after s (next_calls s calls e) es
 
-abbrev pub no_part : Part
-no_part = record { live = None; before = []; latest = None; errand = no_errand; failures = [] }
+abbrev pub no_calls : SessionCalls
+no_calls = record { live = None; before = []; latest = None; in_flight = none_in_flight; failures = [] }
 
-abbrev pub part_of : ℕ → List Step → Part
-part_of s es = part_after s no_part es
+abbrev pub calls_by : ℕ → List Step → SessionCalls
+calls_by s es = calls_after s no_calls es
 
 -- nothing more is told of the session's calls: its transaction was cut off or has ended, or its latest call awaits
 -- nothing
-abbrev pub IsClosed : Part → Type 0
-IsClosed part = (part.live ≡ None) ⊎ (pending part.latest ≡ false)
+abbrev pub IsClosed : SessionCalls → Type 0
+IsClosed calls = (calls.live ≡ None) ⊎ (pending calls.latest ≡ false)
 
 -- a transaction that was a session's still is, or is gone
 abbrev pub IsLeft : Option ℕ → Option ℕ → Type 0
@@ -181,13 +181,13 @@ IsSameCall None later = later ≡ None
 IsSameCall (Some c) later = (line : Option Line) × (later ≡ Some (called_as c.event c.out line))
 
 -- what a call that has its entry came to at once leaves of the transaction
-abbrev pub LeavesLive : Option ℕ → Out → Part → Type 0
+abbrev pub LeavesLive : Option ℕ → Out → SessionCalls → Type 0
 LeavesLive was (out.Begun t) new = new.live ≡ Some t
 LeavesLive was _ new = IsLeft was new.live
 
--- a session's part once its call stands in the journal, which came to this at once
-pub record IsCalled (old : Part) (e : Event) (o : Out) (new : Part) : Type 0 where
-  pub before : new.before ≡ calls old
+-- a session's calls once one more stands in the history, which came to this at once
+pub record IsCalled (old : SessionCalls) (e : Event) (o : Out) (new : SessionCalls) : Type 0 where
+  pub before : new.before ≡ call_list old
   pub latest : new.latest ≡ Some (called_as e o None)
   pub live : LeavesLive old.live o new
   pub failures : new.failures ≡ []

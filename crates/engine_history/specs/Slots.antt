@@ -1,4 +1,4 @@
--- What tokens of the row show.
+-- What tokens of entries show.
 use Rattle.std.specs.Prelude.{◌<◌, ◌^◌, ℕ, ◌+◌, Bool, List, [], ◌∷◌, ◌++◌, Option, Some, None, map, length, slice_get, ◌-◌, ⊤}
 use Rattle.std.specs.Option.{is_some}
 use Rattle.boxcar.specs.Table.{Where, Shelves, Shows}
@@ -34,14 +34,14 @@ abbrev pub spot : Option Slot → ℕ
 spot None = 0
 spot (Some p) = p.index + 1
 
--- the row shows it, at an index after which there is another
-pub record Shown (row : Shelves) (p : Slot) : Type 0 where
-  pub shows : Shows row p
+-- the entries show it, at an index after which there is another
+pub record Shown (entries : Shelves) (p : Slot) : Type 0 where
+  pub shows : Shows entries p
   pub counted : p.index + 1 < 2 ^ 64
 
 abbrev pub IsShown : Shelves → Option Slot → Type 0
-IsShown row None = ⊤
-IsShown row (Some p) = Shown row p
+IsShown entries None = ⊤
+IsShown entries (Some p) = Shown entries p
 
 abbrev pub last_of : {A : Type 0} → List A → Option A
 last_of xs = slice_get xs (length xs - 1)

@@ -54,7 +54,7 @@ abbrev pub count : {A : Type 0} → Option A → ℕ
 count None = 0
 count (Some a) = 1
 
--- the components of the node with which a journal begins; nothing was sent between them
+-- the components of the node with which a history begins; nothing was sent between them
 pub record Start : Type 0 where
   pub tc : TcSide
   pub dc : DcSide
@@ -62,7 +62,7 @@ pub record Start : Type 0 where
 abbrev pub node_at : Start → NodeView
 node_at start = node_of start.tc start.dc [] []
 
--- where a journal may begin: what holds of every node holds of it
+-- where a history may begin: what holds of every node holds of it
 abbrev pub IsStart : Start → Type 0
 IsStart start = IsNode (node_at start)
 

@@ -1,4 +1,4 @@
-//! What stands in the row.
+//! What is entered.
 ghost use Rattle.std.specs.Prelude.{◌≡◌};
 ghost use Rattle.std.specs.Option.{option_copied};
 

@@ -7,6 +7,6 @@ pub trait Gate {
 
     fn after(&self, reply: &Reply);
 
-    /// Called with the data component's lock held, and the journal's free.
+    /// Called with the data component's lock held, and the history's free.
     fn in_dc(&self, _request: &Request) {}
 }

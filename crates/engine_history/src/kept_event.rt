@@ -1,14 +1,14 @@
 //! An event in little room: of ten entries of a transaction nine are told by one number.
 ghost use Rattle.std.specs.Prelude.{◌≡◌};
-ghost use Rattle.engine_history.specs.Errands.{serves};
+ghost use Rattle.engine_history.specs.InFlightCalls.{serves};
 ghost use Rattle.engine_history.specs.Lending.{lent};
 ghost use Rattle.engine_history.specs.Marking.{low_of};
 ghost use Rattle.engine_history.specs.Sessions.{cuts_off};
 
-use crate::errand::{Errand, is_number};
+use crate::growth::boxed;
+use crate::in_flight::{InFlight, is_number};
 use crate::kept_out::KeptOut;
 use crate::lent::Lent;
-use crate::row::boxed;
 use node_sides::node_laws::Event;
 use std::alloc::Global;
 use std::marker::Model;
@@ -90,14 +90,14 @@ impl KeptEvent {
     }
 
     /// Whether the step is made for this transaction.
-    pub(crate) fn serves(&self, txn: u64, errand: &Errand) -> bool
-        ensures { result ≡ serves txn errand.now self.now }
+    pub(crate) fn serves(&self, txn: u64, in_flight: &InFlight) -> bool
+        ensures { result ≡ serves txn in_flight.now self.now }
     {
         match &self.inside {
             Kept::Send(of) | Kept::Undo(of) => *of == txn,
-            Kept::Request(number) => is_number(errand.request, *number),
-            Kept::Reply(number) => is_number(errand.reply, *number),
-            Kept::Force => errand.commits,
+            Kept::Request(number) => is_number(in_flight.request, *number),
+            Kept::Reply(number) => is_number(in_flight.reply, *number),
+            Kept::Force => in_flight.commits,
             _ => false,
         }
     }

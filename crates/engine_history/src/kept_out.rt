@@ -1,6 +1,6 @@
 //! What an event came to, in little room: of ten entries of a transaction eight are told by one number.
 ghost use Rattle.std.specs.Prelude.{◌≡◌, true, IfSome, IfNone};
-ghost use Rattle.engine_history.specs.Errands.{errand_of, sent_on};
+ghost use Rattle.engine_history.specs.InFlightCalls.{in_flight_of, sent_on};
 ghost use Rattle.engine_history.specs.Failing.{failure_of};
 ghost use Rattle.engine_history.specs.Kept.{line_kind};
 ghost use Rattle.engine_history.specs.KeptOuts.{kept_out, is_brief_out, BoxesOtherOuts};
@@ -8,10 +8,10 @@ ghost use Rattle.engine_history.specs.Lending.{lent};
 ghost use Rattle.engine_history.specs.Marking.{if_sent, tells_commit};
 ghost use Rattle.engine_history.specs.Sessions.{is_pending, line_to, live_after};
 
-use crate::errand::Errand;
 use crate::failure::{Failure, failure_in};
+use crate::growth::boxed;
+use crate::in_flight::InFlight;
 use crate::lent::Lent;
-use crate::row::boxed;
 use crate::told::{Told, kind_if, told_to};
 use node_sides::node_laws::Out;
 use record_key::Refusal;
@@ -165,10 +165,10 @@ impl KeptOut {
     }
 
     /// What is on its way for a call that came to this: nothing is sent yet.
-    pub(crate) fn errand(&self) -> Errand
-        ensures { result ≡ errand_of self.now }
+    pub(crate) fn in_flight(&self) -> InFlight
+        ensures { result ≡ in_flight_of self.now }
     {
-        Errand {
+        InFlight {
             request: None,
             reply: None,
             commits: matches!(&self.inside, OutForm::CommitLogged(_)),
@@ -176,21 +176,21 @@ impl KeptOut {
     }
 
     /// What is on its way after a step that came to this and was made for a transaction.
-    pub(crate) fn sent_on(&self, errand: Errand) -> Errand
-        ensures { result ≡ sent_on errand self.now }
+    pub(crate) fn sent_on(&self, in_flight: InFlight) -> InFlight
+        ensures { result ≡ sent_on in_flight self.now }
     {
         match &self.inside {
-            OutForm::Sent(number) => Errand {
+            OutForm::Sent(number) => InFlight {
                 request: Some(*number),
                 reply: None,
-                commits: errand.commits,
+                commits: in_flight.commits,
             },
-            OutForm::Replied(number) => Errand {
-                request: errand.request,
+            OutForm::Replied(number) => InFlight {
+                request: in_flight.request,
                 reply: Some(*number),
-                commits: errand.commits,
+                commits: in_flight.commits,
             },
-            _ => errand,
+            _ => in_flight,
         }
     }
 

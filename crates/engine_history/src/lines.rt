@@ -1,4 +1,4 @@
-//! The journal's entries, in order.
+//! The history's entries, in order.
 ghost use Rattle.std.specs.Prelude.{◌≡◌, ◌<◌, ℕ, [], ◌∷◌, ◌++◌, true, IfOk, IfSome, IfNone, OnErr, length, slice_get, cond, vec_len, vec_capacity};
 ghost use Rattle.node_sides.specs.node_laws.specs.Halves.{IsSpelledIf, node_of};
 ghost use Rattle.node_sides.specs.node_laws.specs.Messages.{message_at};
@@ -9,28 +9,28 @@ ghost use Rattle.engine_history.specs.Views.{Sees};
 ghost use Rattle.engine_history.specs.Kept.{is_dc, IsInRun, IsSentBy, EntersTc, EntersDc};
 
 use crate::entry::Entry;
+use crate::growth::{make_room, pushed};
 use crate::naming::Naming;
-use crate::row::{make_room, pushed};
 use crate::step::Step;
 use crate::trace::Trace;
 use crate::tracing::{nothing, up_to};
-use crate::view::{Party, Visitor, again};
-use boxcar::{Pushed, Vec as Row};
-use engine_agreement::Book;
+use crate::view::{Cursor, CursorEnd, again};
+use boxcar::{Pushed, Vec as Entries};
+use engine_agreement::FarEnd;
 use node_sides::{DcSide, TcSide};
 use stable::{CrashLog, CrashPages};
 use std::alloc::Global;
 use std::marker::Model;
 use std::sync::Wait;
 
-/// The entries in order, as the tokens of their places in the row. Contracts see the steps.
+/// The entries in order, as their tokens. Contracts see the steps.
 #[derive(Drop)]
 pub struct Lines<J: Naming> {
     tokens: Vec<Pushed<Entry>>,
     asked: Vec<Pushed<Entry>>,
     given: Vec<Pushed<Entry>>,
-    tc: Party<J>,
-    dc: Party<J>,
+    tc: CursorEnd<J>,
+    dc: CursorEnd<J>,
 }
 
 impl<J: Naming> Model for Lines<J> {
@@ -49,7 +49,7 @@ impl<J: Naming> Model for Lines<J> {
     ghost invariant = { λ l. LinesKept J.start J.entries J.names l.tokens.items l.asked.items l.given.items l.tc l.dc };
 }
 
-/// No message of that number stands in the journal.
+/// No message of that number stands in the history.
 #[derive(Debug, Clone, Copy, PartialEq, Eq)]
 pub struct Unsent;
 
@@ -82,13 +82,13 @@ fn last_of(tokens: &[Pushed<Entry>]) -> Option<Pushed<Entry>>
 }
 
 // All steps up to an entry.
-fn traced<J: Naming>(row: &Row<Entry>, last: &Option<Pushed<Entry>>) -> Trace
-    requires row { row.now ≡ J.entries }
+fn traced<J: Naming>(entries: &Entries<Entry>, last: &Option<Pushed<Entry>>) -> Trace
+    requires entries { entries.now ≡ J.entries }
     requires shown { IsShown J.entries last.now }
     ensures { result.steps ≡ seen last.now }
 {
     match last {
-        Some(last) => up_to(row.value(last)),
+        Some(last) => up_to(entries.value(last)),
         None => nothing(),
     }
 }
@@ -104,8 +104,8 @@ fn push_if(list: &mut Vec<Pushed<Entry>>, wanted: bool, token: &Pushed<Entry>)
 }
 
 impl<J: Naming> Lines<J> {
-    /// No entries, with the books of the two components.
-    pub fn new(alloc: Global, tc: Book, dc: Book) -> Lines<J>
+    /// No entries, with the far ends of the two components.
+    pub fn new(alloc: Global, tc: FarEnd, dc: FarEnd) -> Lines<J>
         requires tc { (tc.name ≡ J.names 0) × (tc.number ≡ 0) }
         requires dc { (dc.name ≡ J.names 1) × (dc.number ≡ 0) }
         requires start { IsStart J.start }
@@ -115,8 +115,8 @@ impl<J: Naming> Lines<J> {
             tokens: Vec::new(alloc),
             asked: Vec::new(alloc),
             given: Vec::new(alloc),
-            tc: Party::new(tc),
-            dc: Party::new(dc),
+            tc: CursorEnd::new(tc),
+            dc: CursorEnd::new(dc),
         }
     }
 
@@ -163,35 +163,35 @@ impl<J: Naming> Lines<J> {
     }
 
     /// The transaction component has seen all entries from now on. None of its own came since it saw the last ones.
-    pub fn meet_tc(&mut self, row: &Row<Entry>, visitor: &mut Visitor<J>)
-        requires row { row.now ≡ J.entries }
-        requires name { visitor.old.name ≡ J.names 0 }
+    pub fn meet_tc(&mut self, entries: &Entries<Entry>, cursor: &mut Cursor<J>)
+        requires entries { entries.now ≡ J.entries }
+        requires name { cursor.old.name ≡ J.names 0 }
         ensures same { self.new ≡ self.old }
-        ensures visitor { visitor.new ≡ record { name = visitor.old.name; steps = self.old } }
-        ensures sees { Sees is_tc visitor.old.steps self.old }
+        ensures cursor { cursor.new ≡ record { name = cursor.old.name; steps = self.old } }
+        ensures sees { Sees is_tc cursor.old.steps self.old }
     {
         let last = last_of(&self.tokens);
-        self.tc.meet(row, visitor, &last);
+        self.tc.meet(entries, cursor, &last);
     }
 
     /// The same of the data component, which some run of the node through these entries ends with.
     pub fn meet_dc<D: CrashLog, P: CrashPages>(
         &mut self,
-        row: &Row<Entry>,
-        visitor: &mut Visitor<J>,
+        entries: &Entries<Entry>,
+        cursor: &mut Cursor<J>,
         side: &DcSide<D, P>,
         given: u64,
     )
-        requires row { row.now ≡ J.entries }
-        requires name { visitor.old.name ≡ J.names 1 }
-        requires gives { GivesDc J.start visitor.old.steps record { side = side.now; given = given } }
+        requires entries { entries.now ≡ J.entries }
+        requires name { cursor.old.name ≡ J.names 1 }
+        requires gives { GivesDc J.start cursor.old.steps record { side = side.now; given = given } }
         ensures same { self.new ≡ self.old }
-        ensures visitor { visitor.new ≡ record { name = visitor.old.name; steps = self.old } }
-        ensures sees { Sees is_dc visitor.old.steps self.old }
+        ensures cursor { cursor.new ≡ record { name = cursor.old.name; steps = self.old } }
+        ensures sees { Sees is_dc cursor.old.steps self.old }
         ensures run { IsInRun J.start self.old side.now }
     {
         let last = last_of(&self.tokens);
-        self.dc.meet(row, visitor, &last);
+        self.dc.meet(entries, cursor, &last);
     }
 
     /// The entry that sent the request of this number, if one did.
@@ -217,22 +217,22 @@ impl<J: Naming> Lines<J> {
     pub fn enter_tc<R: Wait>(
         &mut self,
         rt: &R,
-        row: &Row<Entry>,
-        visitor: &mut Visitor<J>,
+        entries: &Entries<Entry>,
+        cursor: &mut Cursor<J>,
         step: Box<Step>,
     ) -> Pushed<Entry>
-        requires row { row.now ≡ J.entries }
-        requires name { visitor.old.name ≡ J.names 0 }
+        requires entries { entries.now ≡ J.entries }
+        requires name { cursor.old.name ≡ J.names 0 }
         requires tc { is_tc step.value ≡ true }
-        requires enters { (n : TcState) × EntersTc J.start visitor.old.steps step.value n }
+        requires enters { (n : TcState) × EntersTc J.start cursor.old.steps step.value n }
         ensures shown { Shown J.entries result }
         ensures value { result.value.step.value ≡ step.value }
         ensures through { through result.value ≡ self.old ++ step.value ∷ [] }
         ensures before { result.value.before.steps ≡ self.old }
         ensures entered { self.new ≡ self.old ++ step.value ∷ [] }
-        ensures visitor { visitor.new ≡ record { name = visitor.old.name; steps = self.new } }
-        ensures sees { Sees is_tc visitor.old.steps self.old }
-        ensures gives { (n : TcState) → EntersTc J.start visitor.old.steps step.value n → GivesTc J.start visitor.new.steps n }
+        ensures cursor { cursor.new ≡ record { name = cursor.old.name; steps = self.new } }
+        ensures sees { Sees is_tc cursor.old.steps self.old }
+        ensures gives { (n : TcState) → EntersTc J.start cursor.old.steps step.value n → GivesTc J.start cursor.new.steps n }
     {
         let Lines {
             tokens,
@@ -245,9 +245,9 @@ impl<J: Naming> Lines<J> {
         make_room(rt, asked);
         let last = last_of(tokens);
         let asks = step.sent.is_some();
-        let before = traced::<J>(row, &last);
-        let token = pushed(rt, row, Entry { step, before });
-        tc.meet(row, visitor, &Some(token.again()));
+        let before = traced::<J>(entries, &last);
+        let token = pushed(rt, entries, Entry { step, before });
+        tc.meet(entries, cursor, &Some(token.again()));
         push_if(asked, asks, &token);
         push_if(tokens, true, &token);
         token
@@ -257,22 +257,22 @@ impl<J: Naming> Lines<J> {
     pub fn enter_dc<R: Wait>(
         &mut self,
         rt: &R,
-        row: &Row<Entry>,
-        visitor: &mut Visitor<J>,
+        entries: &Entries<Entry>,
+        cursor: &mut Cursor<J>,
         step: Box<Step>,
     ) -> Pushed<Entry>
-        requires row { row.now ≡ J.entries }
-        requires name { visitor.old.name ≡ J.names 1 }
+        requires entries { entries.now ≡ J.entries }
+        requires name { cursor.old.name ≡ J.names 1 }
         requires dc { is_dc step.value ≡ true }
-        requires enters { (n : DcState) × EntersDc J.start visitor.old.steps step.value n }
+        requires enters { (n : DcState) × EntersDc J.start cursor.old.steps step.value n }
         ensures shown { Shown J.entries result }
         ensures value { result.value.step.value ≡ step.value }
         ensures through { through result.value ≡ self.old ++ step.value ∷ [] }
         ensures before { result.value.before.steps ≡ self.old }
         ensures entered { self.new ≡ self.old ++ step.value ∷ [] }
-        ensures visitor { visitor.new ≡ record { name = visitor.old.name; steps = self.new } }
-        ensures sees { Sees is_dc visitor.old.steps self.old }
-        ensures gives { (n : DcState) → EntersDc J.start visitor.old.steps step.value n → GivesDc J.start visitor.new.steps n }
+        ensures cursor { cursor.new ≡ record { name = cursor.old.name; steps = self.new } }
+        ensures sees { Sees is_dc cursor.old.steps self.old }
+        ensures gives { (n : DcState) → EntersDc J.start cursor.old.steps step.value n → GivesDc J.start cursor.new.steps n }
     {
         let Lines {
             tokens,
@@ -285,9 +285,9 @@ impl<J: Naming> Lines<J> {
         make_room(rt, given);
         let last = last_of(tokens);
         let gives = step.given.is_some();
-        let before = traced::<J>(row, &last);
-        let token = pushed(rt, row, Entry { step, before });
-        dc.meet(row, visitor, &Some(token.again()));
+        let before = traced::<J>(entries, &last);
+        let token = pushed(rt, entries, Entry { step, before });
+        dc.meet(entries, cursor, &Some(token.again()));
         push_if(given, gives, &token);
         push_if(tokens, true, &token);
         token

@@ -2,7 +2,7 @@
 ghost use Rattle.std.specs.Prelude.{◌≡◌, None};
 ghost use Rattle.std.specs.Option.{is_some, option_copied};
 
-use crate::row::boxed;
+use crate::growth::boxed;
 use std::alloc::Global;
 use std::marker::Model;
 use std::sync::Wait;

@@ -1,4 +1,4 @@
-//! The names that tie what lies under locks of its own.
+//! The names by which what lies under locks of its own belongs together.
 use std::marker::Brand;
 
 /// Which engine it is. Each call of a program picks it.
@@ -11,13 +11,13 @@ pub trait Naming {
     /// The components with which it begins.
     ghost start: { Start };
 
-    /// The row in which the entries stand.
+    /// Where the entries stand.
     ghost entries: { Shelves };
 
     /// The marks that its seats read.
     ghost marks: { TableId };
 
-    /// The ties: of the transaction component, of the data component, of the engine itself, and of each session.
+    /// The agreements: of the transaction component, of the data component, of the engine itself, and of each session.
     ghost names: { ℕ → ℕ };
 
     /// How many sessions there are.

@@ -1,15 +1,15 @@
-//! The engine's own side of the journal.
+//! The engine's own side of the history.
 ghost use Rattle.std.specs.Prelude.{◌≡◌, []};
 
 use crate::naming::Naming;
-use crate::view::Visitor;
+use crate::view::Cursor;
 use engine_agreement::Mark;
 use std::marker::Model;
 
 /// Who alone crashes components and sets failures. There is one at an engine. Contracts see its commands, in order.
 #[derive(Drop)]
 pub struct Operator<J: Naming> {
-    pub(crate) visitor: Visitor<J>,
+    pub(crate) cursor: Cursor<J>,
 }
 
 impl<J: Naming> Model for Operator<J> {
@@ -22,9 +22,9 @@ impl<J: Naming> Model for Operator<J> {
 
     ghost coded = { Prim.hlevel codes };
 
-    ghost view = { λ o. commands o.visitor.steps };
+    ghost view = { λ o. commands o.cursor.steps };
 
-    ghost invariant = { λ o. o.visitor.name ≡ J.names 2 };
+    ghost invariant = { λ o. o.cursor.name ≡ J.names 2 };
 }
 
 impl<J: Naming> Operator<J> {
@@ -35,7 +35,7 @@ impl<J: Naming> Operator<J> {
         ensures { result ≡ [] }
     {
         Operator {
-            visitor: Visitor::new(mark),
+            cursor: Cursor::new(mark),
         }
     }
 }

@@ -1,17 +1,17 @@
-//! What the journal keeps of a session.
+//! What the history keeps of a session.
 ghost use Rattle.std.specs.Prelude.{◌≡◌, ◌+◌, [], Some};
 ghost use Rattle.engine_history.specs.Kept.{PlaceKept, place_after, place_worked, told_kind};
 ghost use Rattle.engine_history.specs.Sessions.{calls_as};
 
 use crate::entry::Entry;
-use crate::errand::Errand;
 use crate::failure::Failure;
+use crate::in_flight::InFlight;
 use crate::naming::Naming;
 use crate::step::Step;
 use crate::told::Told;
-use crate::view::Party;
+use crate::view::CursorEnd;
 use boxcar::Pushed;
-use engine_agreement::Book;
+use engine_agreement::FarEnd;
 
 /// A session's place: its side of what the session has seen, the transaction whose lines are the session's, whether its
 /// latest call is still to be told of, and the entry that told of it; what is on its way for that call, and what a step of
@@ -19,28 +19,28 @@ use engine_agreement::Book;
 #[derive(Drop)]
 pub struct Place<J: Naming> {
     pub(crate) number: u64,
-    pub(crate) party: Party<J>,
+    pub(crate) cursor_end: CursorEnd<J>,
     pub(crate) live: Option<u64>,
     pub(crate) awaits: bool,
     pub(crate) line: Option<Pushed<Entry>>,
-    pub(crate) errand: Errand,
+    pub(crate) in_flight: InFlight,
     pub(crate) failed: Option<Failure>,
 }
 
 impl<J: Naming> Place<J> {
     /// The place of a session that has seen nothing.
-    pub fn new(number: u64, book: Book) -> Place<J>
-        requires name { book.name ≡ J.names (number + 3) }
-        requires start { book.number ≡ 0 }
+    pub fn new(number: u64, far_end: FarEnd) -> Place<J>
+        requires name { far_end.name ≡ J.names (number + 3) }
+        requires start { far_end.number ≡ 0 }
         ensures { PlaceKept J.entries J.names [] number result }
     {
         Place {
             number,
-            party: Party::new(book),
+            cursor_end: CursorEnd::new(far_end),
             live: None,
             awaits: false,
             line: None,
-            errand: Errand {
+            in_flight: InFlight {
                 request: None,
                 reply: None,
                 commits: false,
@@ -54,13 +54,13 @@ impl<J: Naming> Place<J> {
         requires { self.old.live ≡ Some txn }
         ensures { self.new ≡ place_worked step.now.event step.now.out self.old }
     {
-        if !step.event.serves(txn, &self.errand) {
+        if !step.event.serves(txn, &self.in_flight) {
             return;
         }
         if let Some(failure) = step.out.failure() {
             self.failed = Some(failure);
         }
-        self.errand = step.out.sent_on(self.errand);
+        self.in_flight = step.out.sent_on(self.in_flight);
     }
 
     // A line is told to it. Only the first one told of a call counts.

@@ -1,25 +1,25 @@
-//! What a visitor of the journal has seen of it, on both sides of the journal's lock.
+//! How far the history was seen, on both sides of its lock.
 ghost use Rattle.std.specs.Prelude.{◌≡◌, []};
-ghost use Rattle.engine_agreement.specs.Tied.{tied_at};
+ghost use Rattle.engine_agreement.specs.Agreed.{agreed_at};
 ghost use Rattle.engine_history.specs.Slots.{seen, IsShown, spot};
 ghost use Rattle.engine_history.specs.Views.{view_of};
 ghost use Rattle.engine_history.specs.Witnessed.{AreWitnessed};
 
 use crate::entry::Entry;
 use crate::naming::Naming;
-use boxcar::{Pushed, Vec as Row};
-use engine_agreement::{Book, Mark};
+use boxcar::{Pushed, Vec as Entries};
+use engine_agreement::{FarEnd, Mark};
 use std::marker::{Model, PhantomData};
 
-/// The journal's side: the last entry that this visitor has seen. Contracts see the steps up to it.
+/// The history's side of a cursor: the last entry that was seen. Contracts see the steps up to it.
 #[derive(Drop)]
-pub struct Party<J: Naming> {
-    book: Book,
+pub struct CursorEnd<J: Naming> {
+    far_end: FarEnd,
     last: Option<Pushed<Entry>>,
     of: PhantomData<J>,
 }
 
-impl<J: Naming> Model for Party<J> {
+impl<J: Naming> Model for CursorEnd<J> {
     ghost use Rattle.std.specs.Coded.{codes};
     ghost use Rattle.engine_history.specs.Views.{View, view_of, IsViewed};
 
@@ -27,20 +27,20 @@ impl<J: Naming> Model for Party<J> {
 
     ghost coded = { Prim.hlevel codes };
 
-    ghost view = { λ p. view_of p.book p.last };
+    ghost view = { λ p. view_of p.far_end p.last };
 
-    ghost invariant = { λ p. IsViewed J.entries p.book p.last };
+    ghost invariant = { λ p. IsViewed J.entries p.far_end p.last };
 }
 
-/// The visitor's side.
+/// The side of whoever has seen it.
 #[derive(Drop)]
-pub struct Visitor<J: Naming> {
+pub struct Cursor<J: Naming> {
     mark: Mark,
     last: Option<Pushed<Entry>>,
     of: PhantomData<J>,
 }
 
-impl<J: Naming> Model for Visitor<J> {
+impl<J: Naming> Model for Cursor<J> {
     ghost use Rattle.std.specs.Coded.{codes};
     ghost use Rattle.engine_history.specs.Views.{View, view_of, IsViewed};
 
@@ -54,14 +54,14 @@ impl<J: Naming> Model for Visitor<J> {
 }
 
 // Both are the token of one entry, or there is none.
-fn same_last(row: &Row<Entry>, one: &Option<Pushed<Entry>>, other: &Option<Pushed<Entry>>)
-    requires one { IsShown row.now one.now }
-    requires other { IsShown row.now other.now }
+fn same_last(entries: &Entries<Entry>, one: &Option<Pushed<Entry>>, other: &Option<Pushed<Entry>>)
+    requires one { IsShown entries.now one.now }
+    requires other { IsShown entries.now other.now }
     requires spot { spot one.now ≡ spot other.now }
     ensures { seen one.now ≡ seen other.now }
 {
     if let (Some(one), Some(other)) = (one, other) {
-        row.agrees(one, other);
+        entries.agrees(one, other);
     }
 }
 
@@ -86,52 +86,57 @@ fn spot_of<J: Naming>(token: &Option<Pushed<Entry>>) -> u64
     }
 }
 
-impl<J: Naming> Party<J> {
-    /// Both sides of a visitor that has seen nothing, by the ends of a tie.
-    pub fn new(book: Book) -> Party<J>
-        requires { book.number ≡ 0 }
-        ensures { result ≡ record { name = book.name; steps = [] } }
+impl<J: Naming> CursorEnd<J> {
+    /// Both sides of a cursor before all entries, by the ends of an agreement.
+    pub fn new(far_end: FarEnd) -> CursorEnd<J>
+        requires { far_end.number ≡ 0 }
+        ensures { result ≡ record { name = far_end.name; steps = [] } }
     {
-        Party {
-            book,
+        CursorEnd {
+            far_end,
             last: None,
             of: PhantomData,
         }
     }
 
     /// Both sides have seen the same steps. From now on they have seen those up to this entry.
-    pub fn meet(&mut self, row: &Row<Entry>, visitor: &mut Visitor<J>, last: &Option<Pushed<Entry>>)
-        requires row { row.now ≡ J.entries }
-        requires name { self.old.name ≡ visitor.old.name }
+    pub fn meet(
+        &mut self,
+        entries: &Entries<Entry>,
+        cursor: &mut Cursor<J>,
+        last: &Option<Pushed<Entry>>,
+    )
+        requires entries { entries.now ≡ J.entries }
+        requires name { self.old.name ≡ cursor.old.name }
         requires shown { IsShown J.entries last.now }
-        ensures same { self.old ≡ visitor.old }
-        ensures party { self.new ≡ record { name = self.old.name; steps = seen last.now } }
-        ensures visitor { visitor.new ≡ self.new }
+        ensures same { self.old ≡ cursor.old }
+        ensures cursor_end { self.new ≡ record { name = self.old.name; steps = seen last.now } }
+        ensures cursor { cursor.new ≡ self.new }
     {
-        let Party {
-            book,
+        let CursorEnd {
+            far_end,
             last: here,
             of: _,
         } = self;
-        let Visitor {
+        let Cursor {
             mark,
             last: there,
             of: _,
-        } = visitor;
-        book.agree(mark);
-        same_last(row, here, there);
-        book.set(mark, spot_of::<J>(last));
+        } = cursor;
+        far_end.agree(mark);
+        same_last(entries, here, there);
+        far_end.set(mark, spot_of::<J>(last));
         *here = again(last);
         *there = again(last);
     }
 }
 
-impl<J: Naming> Visitor<J> {
-    pub fn new(mark: Mark) -> Visitor<J>
+impl<J: Naming> Cursor<J> {
+    pub fn new(mark: Mark) -> Cursor<J>
         requires { mark.number ≡ 0 }
         ensures { result ≡ record { name = mark.name; steps = [] } }
     {
-        Visitor {
+        Cursor {
             mark,
             last: None,
             of: PhantomData,

@@ -2,7 +2,7 @@
 use Rattle.std.proofs.Common.{◌≡◌, ℕ, Some, sym, subst}
 use Rattle.engine_guarded.specs.Hearing.{as_line}
 use Rattle.engine_guarded.specs.declared.heard.Heard.{Heard}
-use Rattle.engine_guarded.specs.engine_history.specs.Sessions.{Part}
+use Rattle.engine_guarded.specs.engine_history.specs.Sessions.{SessionCalls}
 use Rattle.engine_guarded.specs.engine_history.specs.node_laws.specs.declared.event.Out.{Out}
 use Rattle.engine_guarded.specs.engine_answers.specs.Asking.{event_of}
 use Rattle.engine_guarded.specs.engine_answers.specs.declared.ask.Ask.{Ask}
@@ -16,7 +16,7 @@ use Rattle.engine_monitor.specs.declared.ended.Ended.TheVariants as ended
 use Rattle.engine_monitor.specs.declared.sort.Sort.{Sort}
 
 -- a line was told of it that answers it
-pub answers : (t : ℕ) (a : Ask) (o : Out) (old new : Part) (how : Ended) (x : Told) → old.live ≡ Some t
+pub answers : (t : ℕ) (a : Ask) (o : Out) (old new : SessionCalls) (how : Ended) (x : Told) → old.live ≡ Some t
     → Ends (event_of t a) o old how new
     → (h : Heard) × (how ≡ ended.Told h) × (told_as (sort_of a) o h ≡ Some x)
     → AnswersCall (λ u. event_of u a) x old new

@@ -1,4 +1,4 @@
--- How far the log was stable, as the row shows.
+-- How far the log was stable, as the entries show.
 use Rattle.std.proofs.Common.{◌≡◌, ◌≤◌, ◌<◌, ℕ, max, Bool, true, false, ltb, List, [], refl, subst, sym, ◌∙◌, inl, arith}
 use Rattle.std.proofs.lemmas.Bool.{ltb-true, ltb-false}
 use Rattle.boxcar.specs.Table.{Shelves}
@@ -10,9 +10,9 @@ use Rattle.engine_guarded.specs.engine_history.specs.node_laws.specs.Node.{NodeV
 use Rattle.engine_monitor.specs.Sessions.{WasStable}
 
 -- where the first entry stands
-pub stable_first : (start : Start) (row : Shelves) (first : Slot) → Shown row first → seen first ≡ []
-    → WasStable start row 0
-stable_first start row first shown empty = record {
+pub stable_first : (start : Start) (entries : Shelves) (first : Slot) → Shown entries first → seen first ≡ []
+    → WasStable start entries 0
+stable_first start entries first shown empty = record {
   entry = first;
   shown = shown;
   node = node_at start;
@@ -21,9 +21,9 @@ stable_first start row first shown empty = record {
 }
 
 -- where a session has seen all steps
-pub stable_now : (start : Start) (row : Shelves) (own es : List Step) (node : NodeView) (end : ℕ) → IsShownBy row own
-    → own ≡ es → PassesFrom start es node → end ≡ node.tc.stable → WasStable start row end
-stable_now start row own es node end by same passes is = record {
+pub stable_now : (start : Start) (entries : Shelves) (own es : List Step) (node : NodeView) (end : ℕ) → IsShownBy entries own
+    → own ≡ es → PassesFrom start es node → end ≡ node.tc.stable → WasStable start entries end
+stable_now start entries own es node end by same passes is = record {
   entry = by.entry;
   shown = by.shown;
   node = node;
@@ -31,8 +31,8 @@ stable_now start row own es node end by same passes is = record {
   up_to = omega arith;
 }
 
-pub stable_less : (start : Start) (row : Shelves) (n m : ℕ) → m ≤ n → WasStable start row n → WasStable start row m
-stable_less start row n m less was = record {
+pub stable_less : (start : Start) (entries : Shelves) (n m : ℕ) → m ≤ n → WasStable start entries n → WasStable start entries m
+stable_less start entries n m less was = record {
   entry = was.entry;
   shown = was.shown;
   node = was.node;
@@ -40,14 +40,14 @@ stable_less start row n m less was = record {
   up_to = let h : n ≤ was.node.tc.stable = was.up_to in omega arith;
 }
 
-pub stable_max : (start : Start) (row : Shelves) (n m : ℕ) → WasStable start row n → WasStable start row m
-    → WasStable start row (max n m)
-stable_max start row n m one other = at (ltb n m) refl
+pub stable_max : (start : Start) (entries : Shelves) (n m : ℕ) → WasStable start entries n → WasStable start entries m
+    → WasStable start entries (max n m)
+stable_max start entries n m one other = at (ltb n m) refl
   where
-    at : (b : Bool) → ltb n m ≡ b → WasStable start row (max n m)
+    at : (b : Bool) → ltb n m ≡ b → WasStable start entries (max n m)
     at true is =
         let h : n < m = ltb-true n m is in
-        let e : m ≡ max n m = omega arith in subst (WasStable start row) e other
+        let e : m ≡ max n m = omega arith in subst (WasStable start entries) e other
     at false is =
         let h : m ≤ n = ltb-false n m is in
-        let e : n ≡ max n m = omega arith in subst (WasStable start row) e one
+        let e : n ≡ max n m = omega arith in subst (WasStable start entries) e one

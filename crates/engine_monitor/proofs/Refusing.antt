@@ -6,7 +6,7 @@ use Rattle.record_key.specs.declared.refusal.Refusal.{Refusal}
 use Rattle.record_key.specs.declared.refusal.Refusal.TheVariants.{NotConnected}
 use Rattle.engine_guarded.specs.Hearing.{as_line}
 use Rattle.engine_guarded.specs.declared.heard.Heard.{Heard}
-use Rattle.engine_guarded.specs.engine_history.specs.Sessions.{Part, SessionCall, called_as, is_pending}
+use Rattle.engine_guarded.specs.engine_history.specs.Sessions.{SessionCalls, SessionCall, called_as, is_pending}
 use Rattle.engine_guarded.specs.engine_history.specs.node_laws.specs.declared.event.Event.{Event}
 use Rattle.engine_guarded.specs.engine_history.specs.node_laws.specs.declared.event.Event.TheVariants as event
 use Rattle.engine_guarded.specs.engine_history.specs.node_laws.specs.declared.event.Out.{Out}
@@ -22,21 +22,21 @@ use Rattle.engine_monitor.specs.declared.ended.Ended.{Ended}
 use Rattle.engine_monitor.specs.declared.ended.Ended.TheVariants as ended
 use Rattle.engine_monitor.specs.declared.sort.Sort.{Sort}
 
-abbrev WhyAwaited : SessionCall → Option ℕ → Refusal → Part → Type 0
+abbrev WhyAwaited : SessionCall → Option ℕ → Refusal → SessionCalls → Type 0
 WhyAwaited c was r new = ((r ≡ NotConnected) × (c.line ≡ None → new.live ≡ None)) ⊎ IsHalted c was r new
 
-why_awaited : (c : SessionCall) (was : Option ℕ) (r : Refusal) (new : Part) → is_pending c.out ≡ true
+why_awaited : (c : SessionCall) (was : Option ℕ) (r : Refusal) (new : SessionCalls) → is_pending c.out ≡ true
     → WhyAwaited c was r new → IsWhy c was r new
 why_awaited c was r new pends why =
     subst (λ (b : Bool). MatchBool b (WhyAwaited c was r new) (r ≡ why_of c.out)) (sym pends) why
 
-why_at_once : (c : SessionCall) (was : Option ℕ) (r : Refusal) (new : Part) → is_pending c.out ≡ false
+why_at_once : (c : SessionCall) (was : Option ℕ) (r : Refusal) (new : SessionCalls) → is_pending c.out ≡ false
     → r ≡ why_of c.out → IsWhy c was r new
 why_at_once c was r new done why =
     subst (λ (b : Bool). MatchBool b (WhyAwaited c was r new) (r ≡ why_of c.out)) (sym done) why
 
 -- a call that is answered neither by what it came to nor by what was told of it
-refuses : (e : Event) (o : Out) (old new : Part) (how : Ended) (r : Refusal) (done : Bool) (Untold : Heard → Type 0)
+refuses : (e : Event) (o : Out) (old new : SessionCalls) (how : Ended) (r : Refusal) (done : Bool) (Untold : Heard → Type 0)
     → is_done e o ≡ done → ((u : ℕ) (h : Heard) → Untold h → is_told_by e o (as_line u h) ≡ false)
     → Ends e o old how new → IsRefusalOf done Untold o how r → Refused e old.live old r new
 refuses e o old new ended.AtOnce r done Untold same untold (at_once, adds, live) (why, isnt) = record {
@@ -71,12 +71,12 @@ refuses e o old new ended.CutOff r done Untold same untold (pends, gone, adds) w
   why = why_awaited (called_as e o None) old.live r new pends (inl (why, λ none. gone));
 }
 
-pub refuses_begin : (o : Out) (old new : Part) (how : Ended) (r : Refusal) → Ends event.Begin o old how new
+pub refuses_begin : (o : Out) (old new : SessionCalls) (how : Ended) (r : Refusal) → Ends event.Begin o old how new
     → IsRefusalOf (is_begun o) (λ (h : Heard). ⊤) o how r → Refused event.Begin old.live old r new
 refuses_begin o old new how r ends why =
     refuses event.Begin o old new how r (is_begun o) (λ (h : Heard). ⊤) refl (λ u h none. refl) ends why
 
-pub refuses_save : (t : ℕ) (o : Out) (old new : Part) (how : Ended) (r : Refusal) → Ends (event.Save t) o old how new
+pub refuses_save : (t : ℕ) (o : Out) (old new : SessionCalls) (how : Ended) (r : Refusal) → Ends (event.Save t) o old how new
     → IsRefusalOf (is_saved o) (λ (h : Heard). ⊤) o how r → Refused (event.Save t) old.live old r new
 refuses_save t o old new how r ends why =
     refuses (event.Save t) o old new how r (is_saved o) (λ (h : Heard). ⊤) refl (λ u h none. refl) ends why
@@ -86,7 +86,7 @@ never_done : (t : ℕ) (a : Ask) (o : Out) → is_save a ≡ false → is_done (
 never_done t ask.Save o isnt = absurd (cc (isnt))
 never_done t _ o isnt = refl
 
-pub refuses_told : (t : ℕ) (a : Ask) (o : Out) (old new : Part) (how : Ended) (r : Refusal) → is_save a ≡ false
+pub refuses_told : (t : ℕ) (a : Ask) (o : Out) (old new : SessionCalls) (how : Ended) (r : Refusal) → is_save a ≡ false
     → Ends (event_of t a) o old how new
     → IsRefusalOf false (λ (h : Heard). told_as (sort_of a) o h ≡ None) o how r
     → Refused (event_of t a) old.live old r new

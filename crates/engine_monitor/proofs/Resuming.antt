@@ -6,7 +6,7 @@ use Rattle.engine_guarded.specs.Callers.{IsTold}
 use Rattle.engine_guarded.specs.Hearing.{as_line}
 use Rattle.engine_guarded.specs.declared.heard.Heard.{Heard}
 use Rattle.engine_guarded.specs.engine_history.specs.Callers.{HasLine}
-use Rattle.engine_guarded.specs.engine_history.specs.Sessions.{Part, SessionCall, called_as, calls, is_pending, pending, with_latest}
+use Rattle.engine_guarded.specs.engine_history.specs.Sessions.{SessionCalls, SessionCall, called_as, call_list, is_pending, pending, with_latest}
 use Rattle.engine_guarded.specs.engine_history.specs.node_laws.specs.declared.event.Event.{Event}
 use Rattle.engine_guarded.specs.engine_history.specs.node_laws.specs.declared.event.Out.{Out}
 use Rattle.engine_guarded.specs.engine_answers.specs.Again.{CarriesOn, RefusedAgain}
@@ -20,25 +20,25 @@ use Rattle.engine_monitor.specs.declared.ended.Ended.{Ended}
 use Rattle.engine_monitor.specs.declared.ended.Ended.TheVariants as ended
 use Rattle.engine_monitor.specs.declared.sort.Sort.{Sort}
 
-pub unfinished : (part : Part) (sort : Sort) (o : Out) → IsHalfDone part sort o → IsUnfinished part
-unfinished part sort o was = (
+pub unfinished : (calls : SessionCalls) (sort : Sort) (o : Out) → IsHalfDone calls sort o → IsUnfinished calls
+unfinished calls sort o was = (
   ap pending was.latest ∙ ap (λ (b : Bool). cond b true false) was.awaited,
   was.alive,
 )
 
 -- the list, of which the latest call has this line
-listed : (old new : Part) (c : SessionCall) → new.before ≡ old.before → new.latest ≡ Some c
-    → calls new ≡ old.before ++ c ∷ []
+listed : (old new : SessionCalls) (c : SessionCall) → new.before ≡ old.before → new.latest ≡ Some c
+    → call_list new ≡ old.before ++ c ∷ []
 listed old new c before latest i = with_latest (before i) (latest i)
 
 -- the latest call with what was told of it
-has_told : (old new : Part) (c : SessionCall) (h : Heard) (told : IsTold old new h) → old.latest ≡ Some c
-    → calls new ≡ old.before ++ called_as c.event c.out (Some (as_line told.txn h)) ∷ []
+has_told : (old new : SessionCalls) (c : SessionCall) (h : Heard) (told : IsTold old new h) → old.latest ≡ Some c
+    → call_list new ≡ old.before ++ called_as c.event c.out (Some (as_line told.txn h)) ∷ []
 has_told old new c h told was =
     listed old new (called_as c.event c.out (Some (as_line told.txn h))) told.before
     (subst (λ (o : Option SessionCall). HasLine o new.latest (as_line told.txn h)) was told.latest)
 
-carries : (sort : Sort) (o : Out) (old new : Part) (h : Heard) (a : Told) → told_as sort o h ≡ Some a
+carries : (sort : Sort) (o : Out) (old new : SessionCalls) (h : Heard) (a : Told) → told_as sort o h ≡ Some a
     → Resumes sort o old (ended.Told h) new → CarriesOn old a new
 carries sort o old new h a says resumed =
     let was = resumed.was in
@@ -56,7 +56,7 @@ carries sort o old new h a says resumed =
     }
 
 -- a line was told of it that answers it
-pub carries_on : (sort : Sort) (o : Out) (old new : Part) (how : Ended) (a : Told) → Resumes sort o old how new
+pub carries_on : (sort : Sort) (o : Out) (old new : SessionCalls) (how : Ended) (a : Told) → Resumes sort o old how new
     → (h : Heard) × (how ≡ ended.Told h) × (told_as sort o h ≡ Some a) → CarriesOn old a new
 carries_on sort o old new how a resumed (h, is, says) =
     carries sort o old new h a says (subst (λ (w : Ended). Resumes sort o old w new) is resumed)
@@ -66,7 +66,7 @@ not_answered : (e : Event) (o : Out) (line : Option Line) → is_pending o ≡ t
 not_answered e o line pends isnt = ap (λ (b : Bool). cond b (is_told e o line) (is_done e o)) pends ∙ isnt
 
 -- it isn't answered
-pub refused_again : (sort : Sort) (o : Out) (old new : Part) (how : Ended) (r : Refusal) → Resumes sort o old how new
+pub refused_again : (sort : Sort) (o : Out) (old new : SessionCalls) (how : Ended) (r : Refusal) → Resumes sort o old how new
     → IsRefusalOf false (λ (h : Heard). told_as sort o h ≡ None) o how r → RefusedAgain old r new
 refused_again sort o old new ended.AtOnce r resumed (why, isnt) =
     absurd (cc (sym resumed.finishes.0 ∙ resumed.was.awaited))

@@ -19,10 +19,10 @@ use Rattle.engine_guarded.specs.contracts.entry.Entry as Entry
 use Rattle.engine_guarded.specs.engine_history.proofs.step.Step.TheSendSync as step
 use Rattle.engine_guarded.specs.engine_history.specs.contracts.step.Step as Step
 use Rattle.ghost_list.specs.contracts.ghost_list.GhostList as GhostList
-use Rattle.engine_guarded.proofs.row.Entries.TheSendSync as entries
-use Rattle.engine_guarded.specs.contracts.row.Entries as Entries
-use Rattle.engine_guarded.specs.contracts.row.Entries.TheInside as EntriesInside
-use Rattle.boxcar.proofs.vec.Vec.TheSendSync as row
+use Rattle.engine_guarded.proofs.published.Published.TheSendSync as published
+use Rattle.engine_guarded.specs.contracts.published.Published as Published
+use Rattle.engine_guarded.specs.contracts.published.Published.TheInside as PublishedInside
+use Rattle.boxcar.proofs.vec.Vec.TheSendSync as entries
 use Rattle.engine_marks.proofs.words.Marks.TheSendSync as marks
 use Rattle.engine_guarded.specs.contracts.caller.Caller as Caller
 use Rattle.engine_guarded.specs.contracts.calling.Outs as Outs
@@ -123,17 +123,17 @@ module _ (D : RattleType) (d : log_device.Ghosts D.Denot) (sd : IsSend D) (P : R
     held_send : IsSend (Held.the_row J D P n d p)
     held_send = search (held_inside_send, sendable) depth 20
 
-    entries_inside_sync : IsSync (EntriesInside.the_row J n)
-    entries_inside_sync = search (row.the_sync, entry_sync, entry.the_send, marks.the_sync, crosses, sendable) depth 20
+    published_inside_sync : IsSync (PublishedInside.the_row J n)
+    published_inside_sync = search (entries.the_sync, entry_sync, entry.the_send, marks.the_sync, crosses, sendable) depth 20
 
-    entries_sync : IsSync (Entries.the_row J n)
-    entries_sync = search (entries_inside_sync, sendable) depth 20
+    published_sync : IsSync (Published.the_row J n)
+    published_sync = search (published_inside_sync, sendable) depth 20
 
     shared_send : IsSend (Shared.the_row J D P n d p)
-    shared_send = search (held_send, entries.the_send, crosses, sendable) depth 20
+    shared_send = search (held_send, published.the_send, crosses, sendable) depth 20
 
     shared_sync : IsSync (Shared.the_row J D P n d p)
-    shared_sync = search (held_send, entries_sync, crosses, sendable) depth 20
+    shared_sync = search (held_send, published_sync, crosses, sendable) depth 20
 
     arc_send : IsSend (Arc.the_row (Shared.the_row J D P n d p) Global.the_row ghosts)
     arc_send = search (shared_send, shared_sync, crosses, sendable) depth 8

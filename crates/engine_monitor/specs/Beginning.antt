@@ -3,7 +3,7 @@ use Rattle.std.specs.Prelude.{◌≡◌, ℕ, false, List, [], ◌∷◌, ◌++�
 use Rattle.boxcar.specs.Table.{Shelves}
 use Rattle.engine_guarded.specs.Running.{made}
 use Rattle.engine_guarded.specs.Slots.{Slot, Shown, seen}
-use Rattle.engine_guarded.specs.engine_history.specs.Sessions.{is_pending, part_of}
+use Rattle.engine_guarded.specs.engine_history.specs.Sessions.{is_pending, calls_by}
 use Rattle.engine_guarded.specs.engine_history.specs.declared.step.Step.{Step}
 use Rattle.engine_guarded.specs.engine_history.specs.node_laws.specs.declared.event.Event.TheVariants as event
 use Rattle.engine_guarded.specs.engine_history.specs.node_laws.specs.declared.event.Out.{Out}
@@ -12,11 +12,11 @@ use Rattle.engine_guarded.specs.engine_history.specs.node_laws.specs.declared.ev
 -- of it, it is the last step that the session has seen
 pub record BeginsAlone (session : ℕ) (o : Out) (steps : List Step) : Type 0 where
   pub before : List Step
-  pub none : (part_of session before).live ≡ None
+  pub none : (calls_by session before).live ≡ None
   pub last : is_pending o ≡ false → steps ≡ before ++ made (Some session) event.Begin o ∷ []
 
--- the row shows an entry at the end of such a call
-pub record ShowsBegin (row : Shelves) (session : ℕ) (o : Out) : Type 0 where
+-- there is an entry at the end of such a call
+pub record ShowsBegin (entries : Shelves) (session : ℕ) (o : Out) : Type 0 where
   pub entry : Slot
-  pub shown : Shown row entry
+  pub shown : Shown entries entry
   pub begins : BeginsAlone session o (seen entry)

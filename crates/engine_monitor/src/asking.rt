@@ -1,11 +1,11 @@
 //! A session's call, from the hold in which it is made to its end.
 ghost use Rattle.std.specs.Prelude.{◌≡◌, ℕ, false, None, Some, IfOk, IfErr, IfSome, IfNone, OnOk};
-ghost use Rattle.engine_guarded.specs.engine_history.specs.Sessions.{calls, is_pending};
+ghost use Rattle.engine_guarded.specs.engine_history.specs.Sessions.{call_list, is_pending};
 ghost use Rattle.engine_guarded.specs.engine_history.specs.node_laws.specs.declared.event.Event.TheVariants as event;
 ghost use Rattle.engine_guarded.specs.engine_answers.specs.Answers.{IsSecond, IsUncalled};
 ghost use Rattle.engine_guarded.specs.engine_answers.specs.Asking.{event_of};
 ghost use Rattle.engine_monitor.specs.Beginning.{ShowsBegin};
-ghost use Rattle.engine_monitor.specs.Ending.{Ends, IsBetweenCalls, IsLeftWith, Resumes, part_in};
+ghost use Rattle.engine_monitor.specs.Ending.{Ends, IsBetweenCalls, IsLeftWith, Resumes, calls_in};
 
 use crate::answers::bar;
 use crate::ended::{Ended, Unfinished, left_by};
@@ -32,9 +32,9 @@ impl<J: Naming, D: CrashLog, P: CrashPages> Shared<J, D, P> {
         requires rest { IsBetweenCalls caller.old unfinished.old outs.now.call }
         ensures number { caller.new.number ≡ caller.old.number }
         ensures rest { IsBetweenCalls caller.new unfinished.new outs.now.call }
-        ensures calls { calls (part_in caller.new) ≡ calls (part_in caller.old) }
+        ensures calls { call_list (calls_in caller.new) ≡ call_list (calls_in caller.old) }
         ensures free { OnOk result ((caller.new ≡ caller.old) × (unfinished.new ≡ None)) }
-        ensures barred { IfErr result (λ r. IsUncalled (part_in caller.old) r (part_in caller.new)) }
+        ensures barred { IfErr result (λ r. IsUncalled (calls_in caller.old) r (calls_in caller.new)) }
     {
         if let None = &*unfinished {
             return Ok(());
@@ -58,9 +58,9 @@ impl<J: Naming, D: CrashLog, P: CrashPages> Shared<J, D, P> {
         requires rest { IsBetweenCalls caller.old unfinished.old outs.old.call }
         ensures number { caller.new.number ≡ caller.old.number }
         ensures rest { IsBetweenCalls caller.new unfinished.new outs.new.call }
-        ensures none { IfNone result (IsSecond (part_in caller.old) (part_in caller.new)) }
+        ensures none { IfNone result (IsSecond (calls_in caller.old) (calls_in caller.new)) }
         ensures ends { IfSome result (λ ended.
-            Ends event.Begin outs.new.call (part_in caller.old) ended (part_in caller.new)) }
+            Ends event.Begin outs.new.call (calls_in caller.old) ended (calls_in caller.new)) }
         ensures alone { IfSome result (λ ended. is_pending outs.new.call ≡ false
             → ShowsBegin J.entries caller.old.number outs.new.call) }
     {
@@ -68,9 +68,9 @@ impl<J: Naming, D: CrashLog, P: CrashPages> Shared<J, D, P> {
         if let Some(_) = &*unfinished {
             return None;
         }
-        let news = self.begin_once(rt, caller, outs)?;
+        let status = self.begin_once(rt, caller, outs)?;
         caller.shown();
-        let ended = self.carry_on(rt, caller, known, 0, outs, news);
+        let ended = self.carry_on(rt, caller, known, 0, outs, status);
         *unfinished = left_by(&ended, 0, Sort::AtOnce);
         Some(ended)
     }
@@ -89,16 +89,16 @@ impl<J: Naming, D: CrashLog, P: CrashPages> Shared<J, D, P> {
         requires rest { IsBetweenCalls caller.old unfinished.old outs.old.call }
         ensures number { caller.new.number ≡ caller.old.number }
         ensures rest { IsBetweenCalls caller.new unfinished.new outs.new.call }
-        ensures uncalled { IfErr result (λ r. IsUncalled (part_in caller.old) r (part_in caller.new)) }
-        ensures ends { IfOk result (λ ended. (t : ℕ) × ((part_in caller.old).live ≡ Some t)
-            × Ends (event_of t ask) outs.new.call (part_in caller.old) ended (part_in caller.new)) }
+        ensures uncalled { IfErr result (λ r. IsUncalled (calls_in caller.old) r (calls_in caller.new)) }
+        ensures ends { IfOk result (λ ended. (t : ℕ) × ((calls_in caller.old).live ≡ Some t)
+            × Ends (event_of t ask) outs.new.call (calls_in caller.old) ended (calls_in caller.new)) }
     {
         self.free(rt, caller, unfinished, outs)?;
         let sort = Sort::of(&ask);
-        let Some((txn, news)) = self.ask_once(rt, caller, known, ask, outs) else {
+        let Some((txn, status)) = self.ask_once(rt, caller, known, ask, outs) else {
             return Err(Refusal::NotOpen);
         };
-        let ended = self.carry_on(rt, caller, known, txn, outs, news);
+        let ended = self.carry_on(rt, caller, known, txn, outs, status);
         *unfinished = left_by(&ended, txn, sort);
         Ok(ended)
     }
@@ -115,17 +115,17 @@ impl<J: Naming, D: CrashLog, P: CrashPages> Shared<J, D, P> {
         requires rest { IsBetweenCalls caller.old unfinished.old outs.old.call }
         ensures number { caller.new.number ≡ caller.old.number }
         ensures rest { IsBetweenCalls caller.new unfinished.new outs.new.call }
-        ensures none { IfErr result (λ r. (r ≡ Refusal.Unsent) × IsLeftWith (part_in caller.old) None outs.old.call
-            × (part_in caller.new ≡ part_in caller.old)) }
+        ensures none { IfErr result (λ r. (r ≡ Refusal.Unsent) × IsLeftWith (calls_in caller.old) None outs.old.call
+            × (calls_in caller.new ≡ calls_in caller.old)) }
         ensures resumes { IfOk result (λ done.
-            Resumes done.0 outs.new.call (part_in caller.old) done.1 (part_in caller.new)) }
+            Resumes done.0 outs.new.call (calls_in caller.old) done.1 (calls_in caller.new)) }
     {
         let Some(call) = unfinished.take() else {
             return Err(Refusal::Unsent);
         };
         let Unfinished { txn, sort } = call;
-        let news = self.resume_once(rt, caller, known, txn, outs);
-        let ended = self.carry_on(rt, caller, known, txn, outs, news);
+        let status = self.resume_once(rt, caller, known, txn, outs);
+        let ended = self.carry_on(rt, caller, known, txn, outs, status);
         *unfinished = left_by(&ended, txn, sort);
         Ok((sort, ended))
     }

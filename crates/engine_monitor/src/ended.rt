@@ -6,7 +6,7 @@ ghost use Rattle.engine_monitor.specs.Ending.{IsEnd, left_by};
 use crate::sort::Sort;
 use engine_guarded::engine_history::Failure;
 use engine_guarded::engine_history::node_laws::Out;
-use engine_guarded::{Heard, News};
+use engine_guarded::{CallStatus, Heard};
 
 /// How a session's call ended that was made.
 #[derive(Drop)]
@@ -39,18 +39,18 @@ pub(crate) fn is_pending(out: &Out) -> bool
 }
 
 /// How a call ended that came to this, by what is new of it, unless it hasn't ended.
-pub(crate) fn ended_by(out: &Out, news: News) -> Option<Ended>
-    ensures ended { IfSome result (IsEnd out.now news) }
-    ensures waits { IfNone result ((is_pending out.now ≡ true) × (news ≡ News.Nothing)) }
+pub(crate) fn ended_by(out: &Out, status: CallStatus) -> Option<Ended>
+    ensures ended { IfSome result (IsEnd out.now status) }
+    ensures waits { IfNone result ((is_pending out.now ≡ true) × (status ≡ CallStatus.Nothing)) }
 {
     if !is_pending(out) {
         return Some(Ended::AtOnce);
     }
-    match news {
-        News::Told(heard) => Some(Ended::Told(heard)),
-        News::CutOff => Some(Ended::CutOff),
-        News::Refused(failure) => Some(Ended::Unfinished(failure)),
-        News::Nothing => None,
+    match status {
+        CallStatus::Told(heard) => Some(Ended::Told(heard)),
+        CallStatus::CutOff => Some(Ended::CutOff),
+        CallStatus::Refused(failure) => Some(Ended::Unfinished(failure)),
+        CallStatus::Nothing => None,
     }
 }
 

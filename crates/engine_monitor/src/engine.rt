@@ -5,17 +5,17 @@ ghost use Rattle.engine_guarded.specs.Found.{IsOutage};
 ghost use Rattle.engine_guarded.specs.engine_history.specs.Closing.{IsFresh, below, numbers_named};
 ghost use Rattle.engine_guarded.specs.engine_history.specs.Commands.{commands};
 ghost use Rattle.engine_guarded.specs.engine_history.specs.node_laws.specs.declared.event.Event.TheVariants as event;
-ghost use Rattle.engine_monitor.specs.Engines.{HasCommanded, IsCovered, IsSeated, LeftBytes, WereUp, numbers_in};
+ghost use Rattle.engine_monitor.specs.Engines.{HasCommanded, IsCovered, IsFreshState, LeftBytes, WereUp, numbers_in};
 ghost use Rattle.engine_monitor.specs.Opened.{IsNamed};
 
 use crate::held::Held;
 use crate::opened::{Opened, Start};
-use crate::seated::{Seated, Sitter, callers_of, seat_all, sessions_of};
 use crate::session::Session;
+use crate::session_states::{SessionState, SessionStates, callers_of, sessions_of, start_all};
 use crate::shared::Shared;
 use engine_guarded::engine_history::Naming;
 use engine_guarded::engine_history::node_laws::Out;
-use engine_guarded::{Caller, Closed, Entries, Entry, Guarded, Place, pushed};
+use engine_guarded::{Caller, Closed, Entry, Guarded, Place, Published, pushed};
 use record_key::Refusal;
 use stable::{CrashLog, CrashPages, MemLog, MemPages};
 use std::alloc::{AllocError, Global};
@@ -51,7 +51,7 @@ impl<J: Naming, D: CrashLog, P: CrashPages> Model for Engine<J, D, P> {
 /// What the threads share, each session's own side, and the engine's.
 struct Parts<J: Naming, D: CrashLog, P: CrashPages> {
     shared: Arc<Shared<J, D, P>>,
-    sitters: Vec<Sitter<J>>,
+    states: Vec<SessionState<J>>,
     own: Caller<J>,
 }
 
@@ -63,31 +63,37 @@ where
     P: CrashPages + Drop,
     R: Wait,
     requires named { IsNamed opened J.start J.entries J.marks J.names J.sessions }
-    ensures sitters { IfOk result (λ made. AllByRecursion (IsSeated J.marks) made.sitters.items) }
-    ensures numbers { IfOk result (λ made. numbers_in made.sitters.items ≡ below J.sessions) }
+    ensures states { IfOk result (λ made. AllByRecursion (IsFreshState J.marks) made.states.items) }
+    ensures numbers { IfOk result (λ made. numbers_in made.states.items ≡ below J.sessions) }
     ensures own { IfOk result (λ made. made.own ≡ record { number = J.sessions; steps = []; busy = false }) }
 {
-    let Opened { start, chairs } = opened;
+    let Opened {
+        start,
+        session_starts,
+    } = opened;
     let Start {
         alloc,
-        row,
+        entries,
         marks,
         seat,
         own,
         world,
         defers,
     } = Box::into_inner(start);
-    let count = chairs.len() as u64;
-    let first = pushed(rt, &row, Entry::first());
-    let Seated { places, sitters } = seat_all::<J>(alloc, chairs, &first)?;
+    let count = session_starts.len() as u64;
+    let first = pushed(rt, &entries, Entry::first());
+    let SessionStates { places, states } = start_all::<J>(alloc, session_starts, &first)?;
     let mut places = places;
-    let (book, mark) = own.at(first.index() as u64 + 1);
-    places.push(Place::new::<J>(count, book, first.again()))?;
+    let (far_end, mark) = own.at(first.index() as u64 + 1);
+    places.push(Place::new::<J>(count, far_end, first.again()))?;
     let held = Held::new(Guarded::new(world, places), seat, &first);
-    let shared = Arc::new(alloc, Shared::new(held, Entries::new(row, marks), defers))?;
+    let shared = Arc::new(
+        alloc,
+        Shared::new(held, Published::new(entries, marks), defers),
+    )?;
     Ok(Parts {
         shared,
-        sitters,
+        states,
         own: Caller::new(count, mark, first),
     })
 }
@@ -122,10 +128,10 @@ impl<J: Naming, D: CrashLog + Drop, P: CrashPages + Drop> Engine<J, D, P> {
         let alloc = opened.start.alloc;
         let Parts {
             shared,
-            sitters,
+            states,
             own,
         } = share(rt, opened)?;
-        let sessions = sessions_of(alloc, sitters, &shared)?;
+        let sessions = sessions_of(alloc, states, &shared)?;
         let mut engine = Engine { alloc, shared, own };
         engine.restart(rt)?;
         Ok((engine, sessions))
@@ -137,9 +143,9 @@ impl<J: Naming, D: CrashLog + Drop, P: CrashPages + Drop> Engine<J, D, P> {
         ensures entered { HasCommanded J.entries J.sessions self.old (event.CrashDc 0 0) }
     {
         let Engine { shared, own, .. } = self;
-        let row = shared.entries.row();
+        let entries = shared.published.entries();
         let mut out = Out::Nothing;
-        shared.hold(rt).guarded.crash_dc(rt, row, own, &mut out);
+        shared.hold(rt).guarded.crash_dc(rt, entries, own, &mut out);
         own.shown();
     }
 
@@ -149,12 +155,12 @@ impl<J: Naming, D: CrashLog + Drop, P: CrashPages + Drop> Engine<J, D, P> {
         ensures { LeftBytes J.start J.entries J.sessions kept self.old self.new }
     {
         let Engine { shared, own, .. } = self;
-        let row = shared.entries.row();
+        let entries = shared.published.entries();
         let mut out = Out::Nothing;
         let mut guard = shared.hold(rt);
         let held = &mut *guard;
         held.guarded.kept();
-        held.guarded.crash_tc(rt, row, own, kept, &mut out);
+        held.guarded.crash_tc(rt, entries, own, kept, &mut out);
         own.shown();
     }
 
@@ -164,12 +170,12 @@ impl<J: Naming, D: CrashLog + Drop, P: CrashPages + Drop> Engine<J, D, P> {
         ensures entered { HasCommanded J.entries J.sessions self.old (event.FailTc call) }
     {
         let Engine { shared, own, .. } = self;
-        let row = shared.entries.row();
+        let entries = shared.published.entries();
         let mut out = Out::Nothing;
         shared
             .hold(rt)
             .guarded
-            .fail_tc(rt, row, own, call, &mut out);
+            .fail_tc(rt, entries, own, call, &mut out);
         own.shown();
     }
 
@@ -181,11 +187,11 @@ impl<J: Naming, D: CrashLog + Drop, P: CrashPages + Drop> Engine<J, D, P> {
         ensures refused { IfErr result IsOutage }
     {
         let Engine { shared, own, .. } = self;
-        let row = shared.entries.row();
+        let entries = shared.published.entries();
         let mut out = Out::Nothing;
         let mut guard = shared.hold(rt);
         let held = &mut *guard;
-        let up = held.guarded.restart(rt, row, own, &mut out);
+        let up = held.guarded.restart(rt, entries, own, &mut out);
         held.guarded.kept();
         own.shown();
         up
@@ -205,7 +211,7 @@ impl<J: Naming, D: CrashLog + Drop, P: CrashPages + Drop> Engine<J, D, P> {
     {
         let Engine { alloc, shared, own } = self;
         let callers = callers_of(alloc, sessions)?;
-        let (held, entries) = alone(rt, shared).into_parts();
-        Ok(held.into_guarded().close(entries.row(), callers, own))
+        let (held, published) = alone(rt, shared).into_parts();
+        Ok(held.into_guarded().close(published.entries(), callers, own))
     }
 }

@@ -15,8 +15,8 @@ mod held;
 mod known;
 mod opened;
 mod resting;
-mod seated;
 mod session;
+mod session_states;
 mod shared;
 mod sort;
 

@@ -10,7 +10,7 @@ ghost use Rattle.engine_guarded.specs.engine_answers.specs.Answers.{AddsCall, Ad
 ghost use Rattle.engine_guarded.specs.engine_answers.specs.Asking.{event_of};
 ghost use Rattle.engine_monitor.specs.Answering.{is_save};
 ghost use Rattle.engine_monitor.specs.Beginning.{ShowsBegin};
-ghost use Rattle.engine_monitor.specs.Ending.{part_in};
+ghost use Rattle.engine_monitor.specs.Ending.{calls_in};
 ghost use Rattle.engine_monitor.specs.Sessions.{AnswersCall, IsStableAt, WasStable, session_of};
 
 use crate::answers::{begun, saved, told};
@@ -64,7 +64,7 @@ impl<J: Naming, D: CrashLog + Drop, P: CrashPages + Drop> Session<J, D, P> {
         shared: Arc<Shared<J, D, P>>,
     ) -> Session<J, D, P>
         requires rest { caller.busy ≡ false }
-        requires closed { IsClosed (part_in caller) }
+        requires closed { IsClosed (calls_in caller) }
         ensures { result ≡ session_of caller known }
     {
         Session {
@@ -82,7 +82,7 @@ impl<J: Naming, D: CrashLog + Drop, P: CrashPages + Drop> Session<J, D, P> {
     /// The session's own side of its calls.
     pub(crate) fn into_caller(self) -> Caller<J>
         ensures number { result.number ≡ self.number }
-        ensures part { part_in result ≡ self.part }
+        ensures calls { calls_in result ≡ self.calls }
         ensures rest { result.busy ≡ false }
     {
         let Session { caller, .. } = self;
@@ -92,13 +92,13 @@ impl<J: Naming, D: CrashLog + Drop, P: CrashPages + Drop> Session<J, D, P> {
     /// How far the log is stable, and up to which number all is answered and announced, as this call reads it. It neither
     /// waits nor locks, and answers no less than the session has seen.
     pub fn marks(&mut self) -> (u64, u64)
-        ensures session { (self.new.number ≡ self.old.number) × (self.new.part ≡ self.old.part) }
+        ensures session { (self.new.number ≡ self.old.number) × (self.new.calls ≡ self.old.calls) }
         ensures ordered { result.1 ≤ result.0 }
         ensures never_falls { (self.old.seat.stable ≤ result.0) × (self.old.seat.low ≤ result.1) }
         ensures read { self.new.seat ≡ having_read self.old.seat result.0 result.1 }
     {
         let Session { known, shared, .. } = self;
-        known.read(shared.entries.marks())
+        known.read(shared.published.marks())
     }
 
     /// Begins a transaction, and answers its number: right before that call the session had none alive. Refused Full where
@@ -106,9 +106,9 @@ impl<J: Naming, D: CrashLog + Drop, P: CrashPages + Drop> Session<J, D, P> {
     pub fn begin<R: Wait>(&mut self, rt: &R) -> Result<u64, Refusal>
         ensures number { self.new.number ≡ self.old.number }
         ensures begun { IfOk result (λ t.
-            AddsCall event.Begin (out.Begun t) None self.old.part self.new.part × (self.new.part.live ≡ Some t)) }
+            AddsCall event.Begin (out.Begun t) None self.old.calls self.new.calls × (self.new.calls.live ≡ Some t)) }
         ensures alone { IfOk result (λ t. ShowsBegin J.entries self.old.number (out.Begun t)) }
-        ensures refused { IfErr result (λ r. RefusedBegin self.old.part r self.new.part) }
+        ensures refused { IfErr result (λ r. RefusedBegin self.old.calls r self.new.calls) }
     {
         let Session {
             caller,
@@ -128,8 +128,8 @@ impl<J: Naming, D: CrashLog + Drop, P: CrashPages + Drop> Session<J, D, P> {
         requires told { is_save ask ≡ false }
         ensures number { self.new.number ≡ self.old.number }
         ensures answered { IfOk result (λ told.
-            AnswersCall (λ t. event_of t ask) told self.old.part self.new.part) }
-        ensures refused { IfErr result (λ r. RefusedCall (λ t. event_of t ask) self.old.part r self.new.part) }
+            AnswersCall (λ t. event_of t ask) told self.old.calls self.new.calls) }
+        ensures refused { IfErr result (λ r. RefusedCall (λ t. event_of t ask) self.old.calls r self.new.calls) }
     {
         let sort = Sort::of(&ask);
         let Session {
@@ -150,9 +150,9 @@ impl<J: Naming, D: CrashLog + Drop, P: CrashPages + Drop> Session<J, D, P> {
     pub fn act<R: Wait>(&mut self, rt: &R, op: &Op) -> Result<Answer, Refusal>
         ensures number { self.new.number ≡ self.old.number }
         ensures answered { IfOk result (λ a. (u : ℕ) × (n : ℕ) ×
-            AddsLiveCall (λ t. event.Act t op.now) (out.Logged n) (Some (TellsAnswer u a)) self.old.part self.new.part) }
+            AddsLiveCall (λ t. event.Act t op.now) (out.Logged n) (Some (TellsAnswer u a)) self.old.calls self.new.calls) }
         ensures refused { IfErr result (λ r.
-            RefusedCall (λ t. event.Act t op.now) self.old.part r self.new.part) }
+            RefusedCall (λ t. event.Act t op.now) self.old.calls r self.new.calls) }
     {
         match self.run(rt, Ask::Act(op.copied()))? {
             Told::Answer(answer) => Ok(answer),
@@ -164,9 +164,9 @@ impl<J: Naming, D: CrashLog + Drop, P: CrashPages + Drop> Session<J, D, P> {
     pub fn get<R: Wait>(&mut self, rt: &R, key: &Key) -> Result<Option<Value>, Refusal>
         ensures number { self.new.number ≡ self.old.number }
         ensures read { IfOk result (λ v. (u : ℕ) × (n : ℕ) ×
-            AddsLiveCall (λ t. event.Get t key.now) (out.Asked n) (Some (TellsRow u v)) self.old.part self.new.part) }
+            AddsLiveCall (λ t. event.Get t key.now) (out.Asked n) (Some (TellsRow u v)) self.old.calls self.new.calls) }
         ensures refused { IfErr result (λ r.
-            RefusedCall (λ t. event.Get t key.now) self.old.part r self.new.part) }
+            RefusedCall (λ t. event.Get t key.now) self.old.calls r self.new.calls) }
     {
         match self.run(rt, Ask::Get(key.copied()))? {
             Told::Row(value) => Ok(value),
@@ -178,10 +178,10 @@ impl<J: Naming, D: CrashLog + Drop, P: CrashPages + Drop> Session<J, D, P> {
     pub fn scan<R: Wait>(&mut self, rt: &R, low: &Key, high: &Option<Key>) -> Result<Rows, Refusal>
         ensures number { self.new.number ≡ self.old.number }
         ensures read { IfOk result (λ rows. (u : ℕ) × (n : ℕ) ×
-            AddsLiveCall (λ t. event.Scan t low.now high.now) (out.Asked n) (Some (TellsRows u rows)) self.old.part
-            self.new.part) }
+            AddsLiveCall (λ t. event.Scan t low.now high.now) (out.Asked n) (Some (TellsRows u rows)) self.old.calls
+            self.new.calls) }
         ensures refused { IfErr result (λ r.
-            RefusedCall (λ t. event.Scan t low.now high.now) self.old.part r self.new.part) }
+            RefusedCall (λ t. event.Scan t low.now high.now) self.old.calls r self.new.calls) }
     {
         match self.run(rt, Ask::Scan(low.copied(), copied_end(high)))? {
             Told::Rows(rows) => Ok(rows),
@@ -193,8 +193,8 @@ impl<J: Naming, D: CrashLog + Drop, P: CrashPages + Drop> Session<J, D, P> {
     pub fn save<R: Wait>(&mut self, rt: &R) -> Result<u64, Refusal>
         ensures number { self.new.number ≡ self.old.number }
         ensures saved { IfOk result (λ s.
-            AddsLiveCall (λ t. event.Save t) (out.Saved s) None self.old.part self.new.part) }
-        ensures refused { IfErr result (λ r. RefusedCall (λ t. event.Save t) self.old.part r self.new.part) }
+            AddsLiveCall (λ t. event.Save t) (out.Saved s) None self.old.calls self.new.calls) }
+        ensures refused { IfErr result (λ r. RefusedCall (λ t. event.Save t) self.old.calls r self.new.calls) }
     {
         let Session {
             caller,
@@ -211,10 +211,10 @@ impl<J: Naming, D: CrashLog + Drop, P: CrashPages + Drop> Session<J, D, P> {
     pub fn back_to<R: Wait>(&mut self, rt: &R, savepoint: u64) -> Result<(), Refusal>
         ensures number { self.new.number ≡ self.old.number }
         ensures back { IfOk result (λ done. (u : ℕ) × (s : ℕ) ×
-            AddsLiveCall (λ t. event.GoBack t savepoint) out.RollingBack (Some (TellsBack u s)) self.old.part
-            self.new.part) }
+            AddsLiveCall (λ t. event.GoBack t savepoint) out.RollingBack (Some (TellsBack u s)) self.old.calls
+            self.new.calls) }
         ensures refused { IfErr result (λ r.
-            RefusedCall (λ t. event.GoBack t savepoint) self.old.part r self.new.part) }
+            RefusedCall (λ t. event.GoBack t savepoint) self.old.calls r self.new.calls) }
     {
         match self.run(rt, Ask::GoBack(savepoint))? {
             Told::Back => Ok(()),
@@ -226,9 +226,9 @@ impl<J: Naming, D: CrashLog + Drop, P: CrashPages + Drop> Session<J, D, P> {
     pub fn rollback<R: Wait>(&mut self, rt: &R) -> Result<(), Refusal>
         ensures number { self.new.number ≡ self.old.number }
         ensures rolled_back { IfOk result (λ done. (u : ℕ) ×
-            AddsLiveCall (λ t. event.Rollback t) out.RollingBack (Some (TellsRolledBack u)) self.old.part self.new.part
-            × (self.new.part.live ≡ None)) }
-        ensures refused { IfErr result (λ r. RefusedCall (λ t. event.Rollback t) self.old.part r self.new.part) }
+            AddsLiveCall (λ t. event.Rollback t) out.RollingBack (Some (TellsRolledBack u)) self.old.calls self.new.calls
+            × (self.new.calls.live ≡ None)) }
+        ensures refused { IfErr result (λ r. RefusedCall (λ t. event.Rollback t) self.old.calls r self.new.calls) }
     {
         match self.run(rt, Ask::Rollback)? {
             Told::RolledBack => Ok(()),
@@ -241,11 +241,11 @@ impl<J: Naming, D: CrashLog + Drop, P: CrashPages + Drop> Session<J, D, P> {
     pub fn commit<R: Wait>(&mut self, rt: &R) -> Result<u64, Refusal>
         ensures number { self.new.number ≡ self.old.number }
         ensures committed { IfOk result (λ n. (u : ℕ) ×
-            AddsLiveCall (λ t. event.Commit t) (out.CommitLogged n) (Some (TellsCommitted u)) self.old.part self.new.part
-            × (self.new.part.live ≡ None)) }
+            AddsLiveCall (λ t. event.Commit t) (out.CommitLogged n) (Some (TellsCommitted u)) self.old.calls self.new.calls
+            × (self.new.calls.live ≡ None)) }
         ensures seen { IfOk result (λ n. n ≤ self.new.seat.stable) }
         ensures stable { IfOk result (WasStable J.start J.entries) }
-        ensures refused { IfErr result (λ r. RefusedCall (λ t. event.Commit t) self.old.part r self.new.part) }
+        ensures refused { IfErr result (λ r. RefusedCall (λ t. event.Commit t) self.old.calls r self.new.calls) }
     {
         let Told::Committed(number) = self.run(rt, Ask::Commit)? else {
             unreachable!()
@@ -259,10 +259,10 @@ impl<J: Naming, D: CrashLog + Drop, P: CrashPages + Drop> Session<J, D, P> {
     /// and Device where a step failed once more, NotConnected where a crash has cut the call off.
     pub fn again<R: Wait>(&mut self, rt: &R) -> Result<Told, Refusal>
         ensures number { self.new.number ≡ self.old.number }
-        ensures told { IfOk result (λ told. CarriesOn self.old.part told self.new.part) }
+        ensures told { IfOk result (λ told. CarriesOn self.old.calls told self.new.calls) }
         ensures seen { IfOk result (IsSeenBy self.new.seat.stable) }
         ensures stable { IfOk result (IsStableAt J.start J.entries) }
-        ensures refused { IfErr result (λ r. RefusedAgain self.old.part r self.new.part) }
+        ensures refused { IfErr result (λ r. RefusedAgain self.old.calls r self.new.calls) }
     {
         let told = self.resume(rt)?;
         self.learn_of(rt, &told);
@@ -272,8 +272,8 @@ impl<J: Naming, D: CrashLog + Drop, P: CrashPages + Drop> Session<J, D, P> {
     // The unfinished call, up to what was told of it.
     fn resume<R: Wait>(&mut self, rt: &R) -> Result<Told, Refusal>
         ensures number { self.new.number ≡ self.old.number }
-        ensures told { IfOk result (λ told. CarriesOn self.old.part told self.new.part) }
-        ensures refused { IfErr result (λ r. RefusedAgain self.old.part r self.new.part) }
+        ensures told { IfOk result (λ told. CarriesOn self.old.calls told self.new.calls) }
+        ensures refused { IfErr result (λ r. RefusedAgain self.old.calls r self.new.calls) }
     {
         let Session {
             caller,
@@ -288,7 +288,7 @@ impl<J: Naming, D: CrashLog + Drop, P: CrashPages + Drop> Session<J, D, P> {
 
     // Of a commit that was told the session sees that its record is stable.
     fn learn_of<R: Wait>(&mut self, rt: &R, told: &Told)
-        ensures same { (self.new.number ≡ self.old.number) × (self.new.part ≡ self.old.part) }
+        ensures same { (self.new.number ≡ self.old.number) × (self.new.calls ≡ self.old.calls) }
         ensures seen { IsSeenBy self.new.seat.stable told.now }
         ensures stable { IsStableAt J.start J.entries told.now }
     {
@@ -299,7 +299,7 @@ impl<J: Naming, D: CrashLog + Drop, P: CrashPages + Drop> Session<J, D, P> {
 
     // The session sees that the log is stable up to the record: by the hold in which its commit was told, or by another.
     fn learn<R: Wait>(&mut self, rt: &R, number: u64)
-        ensures same { (self.new.number ≡ self.old.number) × (self.new.part ≡ self.old.part) }
+        ensures same { (self.new.number ≡ self.old.number) × (self.new.calls ≡ self.old.calls) }
         ensures seen { number ≤ self.new.seat.stable }
         ensures stable { WasStable J.start J.entries number }
     {

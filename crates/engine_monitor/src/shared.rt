@@ -1,7 +1,7 @@
 //! A node under its lock, and what is read with no lock.
 use crate::held::Held;
 use crate::resting::hold;
-use engine_guarded::Entries;
+use engine_guarded::Published;
 use engine_guarded::engine_history::Naming;
 use stable::{CrashLog, CrashPages};
 use std::sync::{Mutex, MutexGuard, Wait};
@@ -10,16 +10,20 @@ use std::sync::{Mutex, MutexGuard, Wait};
 #[derive(Drop)]
 pub struct Shared<J: Naming, D: CrashLog, P: CrashPages> {
     held: Mutex<Held<J, D, P>>,
-    pub(crate) entries: Entries<J>,
+    pub(crate) published: Published<J>,
     /// Whether a commit gives the lock back before the log is made stable, so that others commit with it.
     pub(crate) defers: bool,
 }
 
 impl<J: Naming, D: CrashLog, P: CrashPages> Shared<J, D, P> {
-    pub(crate) fn new(held: Held<J, D, P>, entries: Entries<J>, defers: bool) -> Shared<J, D, P> {
+    pub(crate) fn new(
+        held: Held<J, D, P>,
+        published: Published<J>,
+        defers: bool,
+    ) -> Shared<J, D, P> {
         Shared {
             held: Mutex::new(held),
-            entries,
+            published,
             defers,
         }
     }
@@ -29,9 +33,13 @@ impl<J: Naming, D: CrashLog, P: CrashPages> Shared<J, D, P> {
         hold(rt, &self.held)
     }
 
-    /// What lies under the lock, and the row, once nobody else shares them.
-    pub(crate) fn into_parts(self) -> (Held<J, D, P>, Entries<J>) {
-        let Shared { held, entries, .. } = self;
-        (held.into_inner(), entries)
+    /// What lies under the lock, and what is read without, once nobody else shares them.
+    pub(crate) fn into_parts(self) -> (Held<J, D, P>, Published<J>) {
+        let Shared {
+            held,
+            published,
+            ..
+        } = self;
+        (held.into_inner(), published)
     }
 }

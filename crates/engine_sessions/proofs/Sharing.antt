@@ -20,12 +20,12 @@ use Rattle.std.specs.contracts.alloc.Global as Global
 use Rattle.std.specs.contracts.impls.GlobalAllocator.TheImpl.{ghosts}
 use Rattle.std.specs.contracts.sync.Arc as Arc
 use Rattle.engine_shared.specs.engine_history.proofs.caller.Caller.TheSendSync as caller
-use Rattle.engine_shared.proofs.board.Job.TheSendSync as job
+use Rattle.engine_shared.proofs.monitor.Job.TheSendSync as job
 use Rattle.engine_shared.specs.engine_answers.proofs.ended.Unfinished.TheSendSync as unfinished
 use Rattle.engine_shared.specs.engine_history.specs.declared.naming.Naming as naming
 use Rattle.engine_sessions.specs.contracts.session.Session as Session
 use Rattle.engine_sessions.specs.contracts.session.Session.TheInside as SessionInside
-use Rattle.engine_shared.specs.contracts.board.Job as Job
+use Rattle.engine_shared.specs.contracts.monitor.Job as Job
 use Rattle.engine_shared.specs.contracts.shared.Shared as Shared
 use Rattle.engine_shared.proofs.Sharing.{shared_send, shared_sync}
 

@@ -2,8 +2,8 @@
 //!
 //! Knows: by which steps a call is carried on, and what was told of it.
 //! Must not know: how either half of the node keeps its state, or who else shares the node.
-//! Promises the next crates: a session's part of the journal has just the calls that the session made, each with what it
-//! was answered.
+//! Promises the next crates: a session's calls in the history are just those that the session made, each with what
+//! it was answered.
 #![tactic(auto)]
 
 mod ahead;

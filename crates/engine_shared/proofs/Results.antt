@@ -6,7 +6,7 @@ use Rattle.boxcar.specs.Table.{Shelves}
 use Rattle.record_key.specs.declared.refusal.Refusal.{Refusal}
 use Rattle.engine_answers.specs.node_laws.specs.declared.event.Event.{Event}
 use Rattle.engine_answers.specs.engine_history.specs.Commands.{commands}
-use Rattle.engine_answers.specs.engine_history.specs.Desks.{DcFound}
+use Rattle.engine_answers.specs.engine_history.specs.Latched.{DcFound}
 use Rattle.engine_answers.specs.engine_history.specs.Steps.{Start, GivesDc}
 use Rattle.engine_answers.specs.engine_history.specs.Witnessed.{AreWitnessed, DcRan, WasStable}
 
@@ -16,11 +16,11 @@ alone P (Ok x) holds = holds
 alone P (Err e) holds = holds
 
 -- the session of a data component that runs
-pub ran_in : (start : Start) (row : Shelves) (given : List Event) (found : DcFound) (r : Result ℕ Refusal)
+pub ran_in : (start : Start) (entries : Shelves) (given : List Event) (found : DcFound) (r : Result ℕ Refusal)
     → commands found.steps ≡ given → GivesDc start found.steps found.state
-    → AreWitnessed row found.steps → IfOk r (λ s. s ≡ found.state.side.dc.session)
-    → OnOk r (found.state.side.up ≡ true) → IfOk r (DcRan start row given)
-ran_in start row given found (Ok s) after gives shown is up = record {
+    → AreWitnessed entries found.steps → IfOk r (λ s. s ≡ found.state.side.dc.session)
+    → OnOk r (found.state.side.up ≡ true) → IfOk r (DcRan start entries given)
+ran_in start entries given found (Ok s) after gives shown is up = record {
   steps = found.steps;
   shown = shown;
   after = after;
@@ -29,11 +29,11 @@ ran_in start row given found (Ok s) after gives shown is up = record {
   up = up;
   session_is = sym is;
 }
-ran_in start row given found (Err refusal) after gives shown is up = is
+ran_in start entries given found (Err refusal) after gives shown is up = is
 
 -- what lies below a record that was stable was so too
-pub stable_below : (start : Start) (row : Shelves) (n m : ℕ) → n ≤ m → WasStable start row m → WasStable start row n
-stable_below start row n m below was = record {
+pub stable_below : (start : Start) (entries : Shelves) (n m : ℕ) → n ≤ m → WasStable start entries m → WasStable start entries n
+stable_below start entries n m below was = record {
   steps = was.steps;
   shown = was.shown;
   state = was.state;

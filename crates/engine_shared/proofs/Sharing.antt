@@ -21,18 +21,18 @@ use Rattle.engine_answers.specs.dc_store.proofs.system.SystemTxns.TheSendSync as
 use Rattle.engine_answers.specs.dc_store.specs.contracts.system.SystemTxns as SystemTxns
 use Rattle.engine_answers.specs.node_sides.proofs.stopped_dc.StoppedDc.TheSendSync as stopped
 use Rattle.engine_answers.specs.node_sides.specs.contracts.dc_side.DcSide as DcSide
-use Rattle.engine_answers.specs.engine_history.proofs.hall.Hall.TheSendSync as hall
-use Rattle.engine_answers.specs.engine_history.proofs.journal.Journal.TheSendSync as journal
-use Rattle.engine_answers.specs.engine_history.proofs.tc_desk.TcDesk.TheSendSync as tc_desk
-use Rattle.engine_answers.specs.engine_history.proofs.view.Visitor.TheSendSync as visitor
+use Rattle.engine_answers.specs.engine_history.proofs.published.Published.TheSendSync as published
+use Rattle.engine_answers.specs.engine_history.proofs.event_history.EventHistory.TheSendSync as history
+use Rattle.engine_answers.specs.engine_history.proofs.latched_tc.LatchedTc.TheSendSync as latched_tc
+use Rattle.engine_answers.specs.engine_history.proofs.view.Cursor.TheSendSync as cursor
 use Rattle.engine_answers.specs.engine_history.specs.declared.naming.Naming as naming
-use Rattle.engine_answers.specs.engine_history.specs.contracts.dc_desk.DcDesk as DcDesk
-use Rattle.engine_answers.specs.engine_history.specs.contracts.dc_desk.DcDesk.TheInside as DcDeskInside
-use Rattle.engine_answers.specs.engine_history.specs.contracts.journal.Journal as Journal
-use Rattle.engine_shared.specs.contracts.board.Board as Board
-use Rattle.engine_shared.specs.contracts.entrance.Entrance as Entrance
+use Rattle.engine_answers.specs.engine_history.specs.contracts.latched_dc.LatchedDc as LatchedDc
+use Rattle.engine_answers.specs.engine_history.specs.contracts.latched_dc.LatchedDc.TheInside as LatchedDcInside
+use Rattle.engine_answers.specs.engine_history.specs.contracts.event_history.EventHistory as EventHistory
+use Rattle.engine_shared.specs.contracts.monitor.Monitor as Monitor
+use Rattle.engine_shared.specs.contracts.access.Access as Access
 use Rattle.engine_shared.specs.contracts.shared.Shared as Shared
-use Rattle.engine_answers.specs.engine_history.specs.contracts.tc_desk.TcDesk as TcDesk
+use Rattle.engine_answers.specs.engine_history.specs.contracts.latched_tc.LatchedTc as LatchedTc
 
 tree_send : IsSend Tree.the_row
 tree_send = search (leaf.the_send, key.the_send, summary.the_send, node.crosses, crosses, sendable) depth 40
@@ -55,33 +55,33 @@ module _ (D : RattleType) (d : log_device.Ghosts D.Denot) (sd : IsSend D) (P : R
   dc_side_send = search (dc_send, stopped.the_send, sendable) depth 40
 
   module _ (J : RattleType) (n : naming.Ghosts J.Denot) (s : IsSend J) (y : IsSync J) where
-    pub tc_desk_send : IsSend (TcDesk.the_row J D n d)
-    tc_desk_send = search (tc_desk.the_send) depth 12
+    pub latched_tc_send : IsSend (LatchedTc.the_row J D n d)
+    latched_tc_send = search (latched_tc.the_send) depth 12
 
-    pub journal_send : IsSend (Journal.the_row J n)
-    journal_send = search (journal.the_send) depth 12
+    pub history_send : IsSend (EventHistory.the_row J n)
+    history_send = search (history.the_send) depth 12
 
-    dc_desk_inside_send : IsSend (DcDeskInside.the_row J D P n d p)
-    dc_desk_inside_send = search (dc_side_send, visitor.the_send, sendable) depth 20
+    latched_dc_inside_send : IsSend (LatchedDcInside.the_row J D P n d p)
+    latched_dc_inside_send = search (dc_side_send, cursor.the_send, sendable) depth 20
 
-    pub dc_desk_send : IsSend (DcDesk.the_row J D P n d p)
-    dc_desk_send = search (dc_desk_inside_send, sendable) depth 20
+    pub latched_dc_send : IsSend (LatchedDc.the_row J D P n d p)
+    latched_dc_send = search (latched_dc_inside_send, sendable) depth 20
 
-    board_send : IsSend (Board.the_field J n).row
-    board_send = search (journal_send, hall.the_send, number.the_send, crosses, sendable) depth 20
+    monitor_send : IsSend (Monitor.the_field J n).row
+    monitor_send = search (history_send, published.the_send, number.the_send, crosses, sendable) depth 20
 
-    board_sync : IsSync (Board.the_field J n).row
-    board_sync = search (journal_send, hall.the_sync, number.the_sync, crosses, sendable) depth 20
+    monitor_sync : IsSync (Monitor.the_field J n).row
+    monitor_sync = search (history_send, published.the_sync, number.the_sync, crosses, sendable) depth 20
 
-    entrance_send : IsSend (Entrance.the_field J D n d).row
-    entrance_send = search (board_send, tc_desk_send, crosses, sendable) depth 20
+    access_send : IsSend (Access.the_field J D n d).row
+    access_send = search (monitor_send, latched_tc_send, crosses, sendable) depth 20
 
-    entrance_sync : IsSync (Entrance.the_field J D n d).row
-    entrance_sync = search (board_sync, tc_desk_send, crosses, sendable) depth 20
+    access_sync : IsSync (Access.the_field J D n d).row
+    access_sync = search (monitor_sync, latched_tc_send, crosses, sendable) depth 20
 
     module _ (G : RattleType) (sg : IsSend G) (yg : IsSync G) where
       pub shared_send : IsSend (Shared.the_row J G D P n d p)
-      shared_send = search (entrance_send, dc_desk_send, crosses, sendable) depth 20
+      shared_send = search (access_send, latched_dc_send, crosses, sendable) depth 20
 
       pub shared_sync : IsSync (Shared.the_row J G D P n d p)
-      shared_sync = search (entrance_sync, dc_desk_send, crosses, sendable) depth 20
+      shared_sync = search (access_sync, latched_dc_send, crosses, sendable) depth 20

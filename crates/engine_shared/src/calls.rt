@@ -8,13 +8,13 @@ ghost use Rattle.engine_answers.specs.Answers.{BeganAlone, Ends, Finishes, IsSec
 ghost use Rattle.engine_answers.specs.Asking.{event_of};
 ghost use Rattle.engine_answers.specs.Unfinished.{IsBetweenCalls, call_in, left_by};
 
-use crate::board::Job;
-use crate::entrance::Called;
+use crate::access::Called;
 use crate::freeing::free;
+use crate::monitor::Job;
 use crate::shared::Shared;
 use crate::steps::Rest;
 use crossbeam_channel::Sender;
-use engine_answers::engine_history::{Caller, Gate, Naming, News};
+use engine_answers::engine_history::{CallStatus, Caller, Gate, Naming};
 use engine_answers::{Ask, Ended, Unfinished, left_by};
 use record_key::Refusal;
 use stable::{CrashLog, CrashPages};
@@ -31,23 +31,23 @@ impl<J: Naming, G: Gate, D: CrashLog, P: CrashPages> Shared<J, G, D, P> {
     ) -> Ended
         requires shown { Shown J.entries call.call }
         requires awaited { is_pending call.call.value.step.value.out ≡ true }
-        requires latest { caller.old.part.latest ≡ Some (call_in call.call) }
+        requires latest { caller.old.calls.latest ≡ Some (call_in call.call) }
         ensures number { caller.new.number ≡ caller.old.number }
-        ensures ends { Finishes J.entries call.call caller.old.part result caller.new.part }
-        ensures rest { IsBetweenCalls J.entries caller.new.part (left_by result) }
+        ensures ends { Finishes J.entries call.call caller.old.calls result caller.new.calls }
+        ensures rest { IsBetweenCalls J.entries caller.new.calls (left_by result) }
     {
-        let board = &self.entrance.board;
+        let monitor = &self.access.monitor;
         let session = caller.number();
         let Unfinished { txn, call } = call;
-        let rest = Rest::of(board.out(&call));
+        let rest = Rest::of(monitor.out(&call));
         for _ in rt.forever() {
-            match board.look(rt, caller) {
-                News::Line(line) => return Ended::Told(call, line),
-                News::CutOff => return Ended::CutOff,
-                News::Refused(failure) => {
+            match monitor.look(rt, caller) {
+                CallStatus::Line(line) => return Ended::Told(call, line),
+                CallStatus::CutOff => return Ended::CutOff,
+                CallStatus::Refused(failure) => {
                     return Ended::Unfinished(Unfinished { txn, call }, failure);
                 }
-                News::Nothing => {}
+                CallStatus::Nothing => {}
             }
             self.step(rt, work, session, txn, rest);
         }
@@ -63,12 +63,12 @@ impl<J: Naming, G: Gate, D: CrashLog, P: CrashPages> Shared<J, G, D, P> {
         call: Unfinished,
     ) -> Ended
         requires shown { Shown J.entries call.call }
-        requires latest { caller.old.part.latest ≡ Some (call_in call.call) }
+        requires latest { caller.old.calls.latest ≡ Some (call_in call.call) }
         ensures number { caller.new.number ≡ caller.old.number }
-        ensures ends { Finishes J.entries call.call caller.old.part result caller.new.part }
-        ensures rest { IsBetweenCalls J.entries caller.new.part (left_by result) }
+        ensures ends { Finishes J.entries call.call caller.old.calls result caller.new.calls }
+        ensures rest { IsBetweenCalls J.entries caller.new.calls (left_by result) }
     {
-        if !self.entrance.board.out(&call.call).is_pending() {
+        if !self.access.monitor.out(&call.call).is_pending() {
             let Unfinished { txn: _, call } = call;
             return Ended::AtOnce(call);
         }
@@ -83,19 +83,19 @@ impl<J: Naming, G: Gate, D: CrashLog, P: CrashPages> Shared<J, G, D, P> {
         caller: &mut Caller<J>,
         unfinished: &mut Option<Unfinished>,
     ) -> Option<Ended>
-        requires rest { IsBetweenCalls J.entries caller.old.part unfinished.old }
+        requires rest { IsBetweenCalls J.entries caller.old.calls unfinished.old }
         ensures number { caller.new.number ≡ caller.old.number }
-        ensures rest { IsBetweenCalls J.entries caller.new.part unfinished.new }
-        ensures none { IfNone result (IsSecond caller.old.part caller.new.part) }
+        ensures rest { IsBetweenCalls J.entries caller.new.calls unfinished.new }
+        ensures none { IfNone result (IsSecond caller.old.calls caller.new.calls) }
         ensures ends { IfSome result (λ ended.
-            Ends J.entries event.Begin caller.old.part ended caller.new.part) }
+            Ends J.entries event.Begin caller.old.calls ended caller.new.calls) }
         ensures alone { IfSome result (BeganAlone caller.old.number) }
     {
-        let _ = free(rt, &self.entrance.board, caller, unfinished);
+        let _ = free(rt, &self.access.monitor, caller, unfinished);
         if let Some(_) = &*unfinished {
             return None;
         }
-        let token = self.entrance.begin(rt, caller)?;
+        let token = self.access.begin(rt, caller)?;
         let call = Unfinished {
             txn: 0,
             call: token,
@@ -115,23 +115,23 @@ impl<J: Naming, G: Gate, D: CrashLog, P: CrashPages> Shared<J, G, D, P> {
         unfinished: &mut Option<Unfinished>,
         ask: Ask,
     ) -> Result<Ended, Refusal>
-        requires rest { IsBetweenCalls J.entries caller.old.part unfinished.old }
+        requires rest { IsBetweenCalls J.entries caller.old.calls unfinished.old }
         ensures number { caller.new.number ≡ caller.old.number }
-        ensures rest { IsBetweenCalls J.entries caller.new.part unfinished.new }
-        ensures uncalled { IfErr result (λ r. IsUncalled caller.old.part r caller.new.part) }
-        ensures ends { IfOk result (λ ended. (t : ℕ) × (caller.old.part.live ≡ Some t)
-            × Ends J.entries (event_of t ask) caller.old.part ended caller.new.part) }
+        ensures rest { IsBetweenCalls J.entries caller.new.calls unfinished.new }
+        ensures uncalled { IfErr result (λ r. IsUncalled caller.old.calls r caller.new.calls) }
+        ensures ends { IfOk result (λ ended. (t : ℕ) × (caller.old.calls.live ≡ Some t)
+            × Ends J.entries (event_of t ask) caller.old.calls ended caller.new.calls) }
     {
-        free(rt, &self.entrance.board, caller, unfinished)?;
+        free(rt, &self.access.monitor, caller, unfinished)?;
         // Read before the request is sent, so that no restart after it is missed.
-        let restarts = self.entrance.board.restarts();
-        let Some(Called { txn, token, sent }) = self.entrance.call(rt, caller, ask) else {
+        let restarts = self.access.monitor.restarts();
+        let Some(Called { txn, token, sent }) = self.access.call(rt, caller, ask) else {
             return Err(Refusal::NotOpen);
         };
         if let Some(sent) = &sent {
             let after = self.deliver(rt, work, caller.number(), sent);
-            self.entrance
-                .board
+            self.access
+                .monitor
                 .follow(rt, caller.number(), restarts, after);
         }
         let ended = self.finish(rt, work, caller, Unfinished { txn, call: token });
@@ -147,17 +147,17 @@ impl<J: Naming, G: Gate, D: CrashLog, P: CrashPages> Shared<J, G, D, P> {
         caller: &mut Caller<J>,
         unfinished: &mut Option<Unfinished>,
     ) -> Result<Ended, Refusal>
-        requires rest { IsBetweenCalls J.entries caller.old.part unfinished.old }
+        requires rest { IsBetweenCalls J.entries caller.old.calls unfinished.old }
         ensures number { caller.new.number ≡ caller.old.number }
-        ensures rest { IsBetweenCalls J.entries caller.new.part unfinished.new }
+        ensures rest { IsBetweenCalls J.entries caller.new.calls unfinished.new }
         ensures none { IfErr result (λ r.
-            (r ≡ Refusal.Unsent) × IsClosed caller.old.part × (caller.new.part ≡ caller.old.part)) }
-        ensures resumes { IfOk result (λ ended. Resumes J.entries caller.old.part ended caller.new.part) }
+            (r ≡ Refusal.Unsent) × IsClosed caller.old.calls × (caller.new.calls ≡ caller.old.calls)) }
+        ensures resumes { IfOk result (λ ended. Resumes J.entries caller.old.calls ended caller.new.calls) }
     {
         let Some(call) = unfinished.take() else {
             return Err(Refusal::Unsent);
         };
-        self.entrance.board.resume(rt, caller);
+        self.access.monitor.resume(rt, caller);
         let ended = self.carry_on(rt, work, caller, call);
         *unfinished = left_by(&ended);
         Ok(ended)

@@ -6,18 +6,18 @@
 //! leaves it unfinished, to be carried on.
 #![tactic(auto)]
 
+mod access;
 mod after;
-mod board;
 mod calls;
-mod entrance;
 mod freeing;
+mod monitor;
 mod rounds;
 mod shared;
 mod steps;
 mod worker;
 
-pub use board::Job;
-pub use entrance::Entrance;
+pub use access::Access;
+pub use monitor::Job;
 pub use shared::Shared;
 pub use worker::work;
 

@@ -3,7 +3,7 @@ ghost use Rattle.std.specs.Prelude.{◌≡◌, true, false, IfOk, IfErr, OnOk, I
 ghost use Rattle.engine_answers.specs.node_laws.specs.Halves.{of_tc};
 ghost use Rattle.engine_shared.specs.Outages.{IsOutage};
 ghost use Rattle.engine_answers.specs.engine_history.specs.Commands.{is_command};
-ghost use Rattle.engine_answers.specs.engine_history.specs.Desks.{delivers};
+ghost use Rattle.engine_answers.specs.engine_history.specs.Latched.{delivers};
 ghost use Rattle.engine_answers.specs.engine_history.specs.Witnessed.{DcRan, WereUp};
 
 use crate::shared::Shared;
@@ -46,7 +46,7 @@ impl<J: Naming, G, D: CrashLog, P: CrashPages> Shared<J, G, D, P> {
     {
         for _ in rt.forever() {
             if !self.round(rt, operator)? {
-                self.entrance.board.brought_up(rt);
+                self.access.monitor.brought_up(rt);
                 return Ok(());
             }
         }
@@ -62,7 +62,7 @@ impl<J: Naming, G, D: CrashLog, P: CrashPages> Shared<J, G, D, P> {
         let Some(session) = self.session(rt, operator) else {
             return self.restart_dc(rt);
         };
-        match self.entrance.next(rt, operator, session) {
+        match self.access.next(rt, operator, session) {
             Next::Nothing => Ok(false),
             Next::Restart => self.pass(rt, Event::RestartTc),
             Next::Lose => self.pass(rt, Event::Recover),
@@ -77,11 +77,11 @@ impl<J: Naming, G, D: CrashLog, P: CrashPages> Shared<J, G, D, P> {
         ensures operator { operator.new ≡ operator.old }
         ensures ran { IfSome result (DcRan J.start J.entries operator.old) }
     {
-        let board = &self.entrance.board;
-        let mut desk = self.dc.lock(rt);
-        desk.look(rt, board.hall.row(), &board.journal, operator);
-        desk.kept();
-        desk.session().ok()
+        let monitor = &self.access.monitor;
+        let mut latched = self.dc.lock(rt);
+        latched.look(rt, monitor.published.entries(), &monitor.history, operator);
+        latched.kept();
+        latched.session().ok()
     }
 
     // The data component is restarted.
@@ -89,12 +89,14 @@ impl<J: Naming, G, D: CrashLog, P: CrashPages> Shared<J, G, D, P> {
         ensures refused { IfErr result IsOutage }
         ensures goes_on { IfOk result (λ left. left ≡ true) }
     {
-        let board = &self.entrance.board;
-        let token = self
-            .dc
-            .lock(rt)
-            .turn(rt, board.hall.row(), &board.journal, Event::RestartDc);
-        passed(board.out(&token))
+        let monitor = &self.access.monitor;
+        let token = self.dc.lock(rt).turn(
+            rt,
+            monitor.published.entries(),
+            &monitor.history,
+            Event::RestartDc,
+        );
+        passed(monitor.out(&token))
     }
 
     // An event of the transaction component.
@@ -105,8 +107,8 @@ impl<J: Naming, G, D: CrashLog, P: CrashPages> Shared<J, G, D, P> {
         ensures refused { IfErr result IsOutage }
         ensures goes_on { IfOk result (λ left. left ≡ true) }
     {
-        let token = self.entrance.enter(rt, event);
-        passed(self.entrance.board.out(&token))
+        let token = self.access.enter(rt, event);
+        passed(self.access.monitor.out(&token))
     }
 
     // An event that sends a request, which is served, and its reply taken.
@@ -117,8 +119,8 @@ impl<J: Naming, G, D: CrashLog, P: CrashPages> Shared<J, G, D, P> {
         ensures refused { IfErr result IsOutage }
         ensures goes_on { IfOk result (λ left. left ≡ true) }
     {
-        let token = self.entrance.enter(rt, event);
-        let out = self.entrance.board.out(&token);
+        let token = self.access.enter(rt, event);
+        let out = self.access.monitor.out(&token);
         match number_sent(out) {
             Some(number) => self.serve_up(rt, number),
             None => passed(out),
@@ -130,20 +132,26 @@ impl<J: Naming, G, D: CrashLog, P: CrashPages> Shared<J, G, D, P> {
         ensures refused { IfErr result IsOutage }
         ensures goes_on { IfOk result (λ left. left ≡ true) }
     {
-        let board = &self.entrance.board;
-        let mut desk = self.dc.lock(rt);
-        let served = desk.serve(rt, board.hall.row(), &board.journal, &Nobody, number);
-        board.tend(rt, &mut desk);
-        drop(desk);
+        let monitor = &self.access.monitor;
+        let mut latched = self.dc.lock(rt);
+        let served = latched.serve(
+            rt,
+            monitor.published.entries(),
+            &monitor.history,
+            &Nobody,
+            number,
+        );
+        monitor.tend(rt, &mut latched);
+        drop(latched);
         let Ok(token) = served else {
             return Ok(true);
         };
-        let out = board.out(&token);
+        let out = monitor.out(&token);
         let OutForm::Replied(reply) = out.form() else {
             return passed(out);
         };
-        match self.entrance.take(rt, *reply) {
-            Some(token) => passed(board.out(&token)),
+        match self.access.take(rt, *reply) {
+            Some(token) => passed(monitor.out(&token)),
             None => Ok(true),
         }
     }

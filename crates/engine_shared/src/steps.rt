@@ -3,7 +3,7 @@ ghost use Rattle.std.specs.Prelude.{◌≡◌};
 ghost use Rattle.engine_answers.specs.engine_history.specs.Slots.{Shown};
 
 use crate::after::After;
-use crate::board::Job;
+use crate::monitor::Job;
 use crate::shared::Shared;
 use boxcar::Pushed;
 use crossbeam_channel::Sender;
@@ -47,7 +47,7 @@ impl<J: Naming, G: Gate, D: CrashLog, P: CrashPages> Shared<J, G, D, P> {
     ) -> After
         requires shown { Shown J.entries token.now }
     {
-        match self.entrance.board.out(token).form() {
+        match self.access.monitor.out(token).form() {
             OutForm::Sent(number) => self.have_served(rt, work, Some(session), token, *number),
             OutForm::Refused(Refusal::Unsent | Refusal::NoMemory | Refusal::Device) => After::Look,
             _ => After::Wait,
@@ -67,8 +67,8 @@ impl<J: Naming, G: Gate, D: CrashLog, P: CrashPages> Shared<J, G, D, P> {
         requires shown { Shown J.entries token.now }
     {
         self.look_on(token);
-        if let Some(desk) = hold_soon(&self.dc) {
-            return self.exchange(rt, desk, number);
+        if let Some(latched) = hold_soon(&self.dc) {
+            return self.exchange(rt, latched, number);
         }
         match work.send(rt, Job { number, session }) {
             Ok(()) => After::Wait,
@@ -78,14 +78,14 @@ impl<J: Naming, G: Gate, D: CrashLog, P: CrashPages> Shared<J, G, D, P> {
 
     // Sends the transaction's request, if there is one to be sent.
     fn send<R: Wait>(&self, rt: &R, work: &Sender<Job>, session: u64, txn: u64) -> After {
-        let token = self.entrance.enter(rt, Event::Send { txn });
+        let token = self.access.enter(rt, Event::Send { txn });
         self.deliver(rt, work, session, &token)
     }
 
     // One step back.
     fn undo<R: Wait>(&self, rt: &R, work: &Sender<Job>, session: u64, txn: u64) -> After {
-        let token = self.entrance.enter(rt, Event::Undo { txn });
-        match self.entrance.board.out(&token).form() {
+        let token = self.access.enter(rt, Event::Undo { txn });
+        match self.access.monitor.out(&token).form() {
             OutForm::Refused(Refusal::NoMemory | Refusal::Device) => After::Look,
             OutForm::Compensated(_) | OutForm::Refused(_) => self.send(rt, work, session, txn),
             _ => After::Look,
@@ -94,10 +94,10 @@ impl<J: Naming, G: Gate, D: CrashLog, P: CrashPages> Shared<J, G, D, P> {
 
     // The log is made stable, unless another session's force has told of the call.
     fn force<R: Wait>(&self, rt: &R, work: &Sender<Job>, session: u64) -> After {
-        if self.entrance.board.has_news(rt, session) {
+        if self.access.monitor.must_look(rt, session) {
             return After::Look;
         }
-        let (tell, low) = self.entrance.force(rt);
+        let (tell, low) = self.access.force(rt);
         if let Some(tell) = tell {
             self.tell(rt, work, &tell);
         }
@@ -111,10 +111,10 @@ impl<J: Naming, G: Gate, D: CrashLog, P: CrashPages> Shared<J, G, D, P> {
     fn announce<R: Wait>(&self, rt: &R, work: &Sender<Job>, token: &Pushed<Entry>)
         requires shown { Shown J.entries token.now }
     {
-        let board = &self.entrance.board;
-        if board.is_low_due(token) {
+        let monitor = &self.access.monitor;
+        if monitor.is_low_due(token) {
             self.look_on(token);
-            board.hand_over(rt, work, token);
+            monitor.hand_over(rt, work, token);
         }
     }
 
@@ -122,7 +122,7 @@ impl<J: Naming, G: Gate, D: CrashLog, P: CrashPages> Shared<J, G, D, P> {
     fn tell<R: Wait>(&self, rt: &R, work: &Sender<Job>, token: &Pushed<Entry>)
         requires shown { Shown J.entries token.now }
     {
-        if let OutForm::Sent(number) = self.entrance.board.out(token).form() {
+        if let OutForm::Sent(number) = self.access.monitor.out(token).form() {
             self.have_served(rt, work, None, token, *number);
         }
     }
@@ -143,7 +143,7 @@ impl<J: Naming, G: Gate, D: CrashLog, P: CrashPages> Shared<J, G, D, P> {
         }
     }
 
-    /// One step towards what is told of a call, and the wait for what follows it. What it fails by is in the journal.
+    /// One step towards what is told of a call, and the wait for what follows it. What it fails by is in the history.
     pub(crate) fn step<R: Wait>(
         &self,
         rt: &R,
@@ -152,8 +152,8 @@ impl<J: Naming, G: Gate, D: CrashLog, P: CrashPages> Shared<J, G, D, P> {
         txn: u64,
         rest: Rest,
     ) {
-        let restarts = self.entrance.board.restarts();
+        let restarts = self.access.monitor.restarts();
         let after = self.go_on(rt, work, session, txn, rest);
-        self.entrance.board.follow(rt, session, restarts, after);
+        self.access.monitor.follow(rt, session, restarts, after);
     }
 }

@@ -3,11 +3,11 @@ ghost use Rattle.std.specs.Prelude.{IfSome};
 ghost use Rattle.engine_answers.specs.engine_history.specs.Slots.{Shown};
 
 use crate::after::After;
-use crate::board::Job;
+use crate::monitor::Job;
 use crate::shared::Shared;
 use boxcar::Pushed;
 use crossbeam_channel::Receiver;
-use engine_answers::engine_history::{DcDesk, Entry, Gate, Naming, OutForm, hold};
+use engine_answers::engine_history::{Entry, Gate, LatchedDc, Naming, OutForm, hold};
 use record_key::Refusal;
 use stable::{CrashLog, CrashPages};
 use std::sync::{MutexGuard, Wait};
@@ -32,18 +32,18 @@ where
 impl<J: Naming, G: Gate, D: CrashLog, P: CrashPages> Shared<J, G, D, P> {
     // Serves one request, and hands its reply over.
     fn serve<R: Wait>(&self, rt: &R, job: Job) {
-        let board = &self.entrance.board;
+        let monitor = &self.access.monitor;
         if self.exchange(rt, hold(rt, &self.dc), job.number) == After::Look {
-            board.stir(rt, job.session);
+            monitor.wake_session(rt, job.session);
         }
-        board.wake();
+        monitor.wake();
     }
 
     /// The program sees the request that an entry sent, with no lock held: once, before that is served or handed over.
     pub(crate) fn look_on(&self, token: &Pushed<Entry>)
         requires { Shown J.entries token.now }
     {
-        if let Some(request) = self.hall().row().value(token).sent() {
+        if let Some(request) = self.published().entries().value(token).sent() {
             self.gate.before(request);
         }
     }
@@ -53,29 +53,29 @@ impl<J: Naming, G: Gate, D: CrashLog, P: CrashPages> Shared<J, G, D, P> {
     pub(crate) fn exchange<R: Wait>(
         &self,
         rt: &R,
-        desk: MutexGuard<'_, DcDesk<J, D, P>>,
+        latched: MutexGuard<'_, LatchedDc<J, D, P>>,
         number: u64,
     ) -> After {
-        match self.served(rt, desk, number) {
+        match self.served(rt, latched, number) {
             Some(token) => self.take_over(rt, &token),
             None => After::Look,
         }
     }
 
-    // The request is served, if the journal holds it as sent, and the leaves are kept small.
+    // The request is served, if the history holds it as sent, and the leaves are kept small.
     fn served<R: Wait>(
         &self,
         rt: &R,
-        desk: MutexGuard<'_, DcDesk<J, D, P>>,
+        latched: MutexGuard<'_, LatchedDc<J, D, P>>,
         number: u64,
     ) -> Option<Pushed<Entry>>
         ensures { IfSome result (λ token. Shown J.entries token) }
     {
-        let board = &self.entrance.board;
-        let row = board.hall.row();
-        let mut desk = desk;
-        let served = desk.serve(rt, row, &board.journal, &self.gate, number);
-        board.tend(rt, &mut desk);
+        let monitor = &self.access.monitor;
+        let entries = monitor.published.entries();
+        let mut latched = latched;
+        let served = latched.serve(rt, entries, &monitor.history, &self.gate, number);
+        monitor.tend(rt, &mut latched);
         served.ok()
     }
 
@@ -83,13 +83,13 @@ impl<J: Naming, G: Gate, D: CrashLog, P: CrashPages> Shared<J, G, D, P> {
     fn take_over<R: Wait>(&self, rt: &R, token: &Pushed<Entry>) -> After
         requires { Shown J.entries token.now }
     {
-        let entry = self.hall().row().value(token);
+        let entry = self.published().entries().value(token);
         if let Some(reply) = entry.given() {
             self.gate.after(reply);
         }
         match entry.out().form() {
             OutForm::Replied(reply) => {
-                self.entrance.take(rt, *reply);
+                self.access.take(rt, *reply);
                 After::Look
             }
             OutForm::Refused(Refusal::NotConnected | Refusal::Redoing | Refusal::Stale) =>

@@ -6,18 +6,18 @@ ghost use Rattle.engine_sessions.specs.engine_history.specs.Ending.{EndsWith, Le
 ghost use Rattle.engine_sessions.specs.engine_history.specs.Steps.{RunsFrom, RunsTo};
 ghost use Rattle.engine_workers.specs.Closing.{IsLeftBy};
 
-use engine_sessions::engine_history::{Hall, Journal, Naming, Step};
+use engine_sessions::engine_history::{EventHistory, Naming, Published, Step};
 use node_world::World;
 use record_key::{Key, Refusal, Value};
 use stable::{CrashLog, CrashPages, MemLog, MemPages};
 use std::alloc::Global;
 use std::marker::Model;
 
-/// The journal with its row, where the data component ran at the end its records, and the node.
+/// The history with its entries, where the data component ran at the end its records, and the node.
 #[derive(Drop)]
 struct Left<J: Naming, D: CrashLog, P: CrashPages> {
-    hall: Hall<J>,
-    journal: Journal<J>,
+    published: Published<J>,
+    history: EventHistory<J>,
     rows: Option<Vec<(Key, Value)>>,
     node: Box<World<D, P>>,
 }
@@ -39,30 +39,30 @@ impl<J: Naming, D: CrashLog, P: CrashPages> Model for Closed<J, D, P> {
     ghost coded = { Prim.hlevel (codes, table_code, pages_code) };
 
     ghost view = { λ c. record {
-      steps = c.left.value.journal;
+      steps = c.left.value.history;
       rows = c.left.value.rows;
       node = c.left.value.node.value;
     } };
 
-    ghost invariant = { λ c. IsLeftBy J.start c.left.value.journal c.left.value.rows c.left.value.node.value };
+    ghost invariant = { λ c. IsLeftBy J.start c.left.value.history c.left.value.rows c.left.value.node.value };
 }
 
 impl<J: Naming, D: CrashLog + Drop, P: CrashPages + Drop> Closed<J, D, P> {
-    /// What the journal ends with. Refused NoMemory.
+    /// What the history ends with. Refused NoMemory.
     pub(crate) fn new(
         alloc: Global,
-        hall: Hall<J>,
-        journal: Journal<J>,
+        published: Published<J>,
+        history: EventHistory<J>,
         rows: Option<Vec<(Key, Value)>>,
         node: Box<World<D, P>>,
     ) -> Result<Closed<J, D, P>, Refusal>
-        requires left { IsLeftBy J.start journal rows node.value }
-        ensures closed { IfOk result (λ closed. closed ≡ record { steps = journal; rows = rows; node = node.value }) }
+        requires left { IsLeftBy J.start history rows node.value }
+        ensures closed { IfOk result (λ closed. closed ≡ record { steps = history; rows = rows; node = node.value }) }
         ensures refused { IfErr result (λ refusal. refusal ≡ Refusal.NoMemory) }
     {
         let left = Left {
-            hall,
-            journal,
+            published,
+            history,
             rows,
             node,
         };
@@ -80,14 +80,14 @@ impl<J: Naming, D: CrashLog + Drop, P: CrashPages + Drop> Closed<J, D, P> {
         ensures left { LeavesNode J.start self.now.steps self.now.node }
         ensures promised { (w : NodeView) → RunsTo J.start self.now.steps w → Promises w }
     {
-        self.left.journal.is_run();
+        self.left.history.is_run();
     }
 
     /// How many steps there are.
     pub fn len(&self) -> usize
         ensures { result ≡ length self.now.steps }
     {
-        self.left.journal.count()
+        self.left.history.count()
     }
 
     /// The step at a place, from 0.
@@ -95,8 +95,8 @@ impl<J: Naming, D: CrashLog + Drop, P: CrashPages + Drop> Closed<J, D, P> {
         ensures step { IfSome result (λ step. slice_get self.now.steps place ≡ Some step.now) }
         ensures none { IfNone result (slice_get self.now.steps place ≡ None) }
     {
-        let token = self.left.journal.token(place)?;
-        Some(&self.left.hall.row().value(&token).step)
+        let token = self.left.history.token(place)?;
+        Some(&self.left.published.entries().value(&token).step)
     }
 
     /// The records in key order, where the data component ran.
@@ -108,13 +108,13 @@ impl<J: Naming, D: CrashLog + Drop, P: CrashPages + Drop> Closed<J, D, P> {
     }
 
     /// The node, between whose components no message is on its way: it goes on alone, or as another engine's, or is
-    /// renewed. The journal is let go.
+    /// renewed. The history is let go.
     pub fn into_node(self) -> Box<World<D, P>>
         ensures { result.value ≡ self.node }
     {
         let Left {
-            hall: _,
-            journal: _,
+            published: _,
+            history: _,
             rows: _,
             node,
         } = Box::into_inner(self.left);

@@ -27,7 +27,7 @@ impl<J: Naming, G, D: CrashLog, P: CrashPages> Engine<J, G, D, P> {
     pub fn crash_tc<R: Wait>(&mut self, rt: &R, kept: u64)
         ensures { (entry : Slot) × LeftBytes J.start J.entries kept self.old entry self.new }
     {
-        self.shared.entrance().crash(rt, kept, &mut self.operator);
+        self.shared.access().crash(rt, kept, &mut self.operator);
     }
 
     /// The call of this number, from now on, of the device of the transaction component's log fails.
@@ -35,7 +35,7 @@ impl<J: Naming, G, D: CrashLog, P: CrashPages> Engine<J, G, D, P> {
         ensures given { self.new ≡ self.old ++ event.FailTc call ∷ [] }
         ensures entered { IsEntered J.entries (event.FailTc call) }
     {
-        self.shared.entrance().fail(rt, call, &mut self.operator);
+        self.shared.access().fail(rt, call, &mut self.operator);
     }
 
     /// Brings both components up, in one session, and undoes who was lost: after all commands that were given. Refused

@@ -12,11 +12,13 @@ ghost use Rattle.engine_workers.specs.Opened.{IsNamed};
 use crate::assembly::share;
 use crate::closed::Closed;
 use crate::opened::Opened;
-use crate::seated::{cover, sessions_of, sitters_of};
-use boxcar::Vec as Row;
+use crate::session_states::{cover, sessions_of, states_of};
+use boxcar::Vec as Entries;
 use crossbeam_channel::{Receiver, Sender};
 use engine_sessions::Session;
-use engine_sessions::engine_history::{DcDesk, Entry, Gate, Journal, Naming, Operator, TcDesk};
+use engine_sessions::engine_history::{
+    Entry, EventHistory, Gate, LatchedDc, LatchedTc, Naming, Operator,
+};
 use engine_sessions::engine_shared::{Job, Shared, work};
 use node_world::World;
 use record_key::{Key, Refusal, Value};
@@ -85,22 +87,22 @@ fn alone<T, R: Wait>(rt: &R, shared: Arc<T>) -> T {
     unreachable!()
 }
 
-// The node that both desks leave, behind a pointer, since whoever has it by value is dear to check.
-fn node_of_desks<J: Naming, D: CrashLog + Drop, P: CrashPages + Drop>(
+// The node that both components leave, behind a pointer, since whoever has it by value is dear to check.
+fn node_of_latched<J: Naming, D: CrashLog + Drop, P: CrashPages + Drop>(
     alloc: Global,
-    tc: TcDesk<J, D>,
-    dc: DcDesk<J, D, P>,
-    row: &Row<Entry>,
-    journal: &mut Journal<J>,
+    tc: LatchedTc<J, D>,
+    dc: LatchedDc<J, D, P>,
+    entries: &Entries<Entry>,
+    history: &mut EventHistory<J>,
 ) -> Result<Box<World<D, P>>, AllocError>
-    requires row { row.now ≡ J.entries }
-    ensures same { journal.new ≡ journal.old }
-    ensures leaves { IfOk result (λ node. LeavesNode J.start journal.old node.value) }
+    requires entries { entries.now ≡ J.entries }
+    ensures same { history.new ≡ history.old }
+    ensures leaves { IfOk result (λ node. LeavesNode J.start history.old node.value) }
     ensures stable { IfOk result (λ node. node.value.tc.stable ≡ tc.state.side.tc.stable) }
 {
-    let transactions = tc.into_side(row, journal);
-    let data = dc.into_side(row, journal);
-    journal.leaves(&transactions, &data);
+    let transactions = tc.into_side(entries, history);
+    let data = dc.into_side(entries, history);
+    history.leaves(&transactions, &data);
     Ok(Box::new(alloc, World::of(alloc, transactions, data))?)
 }
 
@@ -142,9 +144,9 @@ where
         ensures numbers { IfOk result (λ made. numbers_named made.1.items ≡ below (length opened.sessions)) }
     {
         let alloc = opened.start.alloc;
-        let (shared, sitters, operator) = share(opened, gate)?;
+        let (shared, states, operator) = share(opened, gate)?;
         let (work, jobs) = crossbeam_channel::unbounded(alloc)?;
-        let sessions = sessions_of(alloc, sitters, &shared, &work)?;
+        let sessions = sessions_of(alloc, states, &shared, &work)?;
         let mut engine = Engine {
             alloc,
             shared,
@@ -200,9 +202,9 @@ where
         join_all(rt, workers);
     }
 
-    /// Ends the engine with all of its sessions, and joins every thread: the journal, the node, and where its data component
+    /// Ends the engine with all of its sessions, and joins every thread: the history, the node, and where its data component
     /// runs its records. What is unfinished of a session's transaction stays so. Refused NoMemory; the engine is gone then
-    /// too. Of crashes and of failures that were set the journal has just the engine's commands.
+    /// too. Of crashes and of failures that were set the history has just the engine's commands.
     pub fn close<R: Threads + Wait>(
         self,
         rt: &R,
@@ -221,14 +223,14 @@ where
             mut operator,
         } = self;
         drop(work);
-        let sitters = sitters_of(alloc, sessions);
+        let states = states_of(alloc, sessions);
         join_all(rt, workers);
-        let sitters = sitters?;
-        let (hall, mut journal, mut tc, dc) = alone(rt, shared).into_parts();
-        cover(&hall, &mut journal, &mut tc, sitters);
-        journal.review(hall.row(), &mut operator);
-        let node = node_of_desks(alloc, tc, dc, hall.row(), &mut journal)?;
+        let states = states?;
+        let (published, mut history, mut tc, dc) = alone(rt, shared).into_parts();
+        cover(&published, &mut history, &mut tc, states);
+        history.review(published.entries(), &mut operator);
+        let node = node_of_latched(alloc, tc, dc, published.entries(), &mut history)?;
         let rows = rows_of(&node)?;
-        Closed::new(alloc, hall, journal, rows, node)
+        Closed::new(alloc, published, history, rows, node)
     }
 }

@@ -7,8 +7,8 @@ ghost use Rattle.node_world.specs.node_laws.specs.Node.{fresh_node};
 ghost use Rattle.engine_sessions.specs.engine_history.specs.Steps.{node_at};
 ghost use Rattle.engine_workers.specs.Opened.{ReadsMarks};
 
-use boxcar::Vec as Row;
-use engine_agreement::{Book, Mark};
+use boxcar::Vec as Entries;
+use engine_agreement::{FarEnd, Mark};
 use engine_marks::{Marks, Seat};
 use engine_sessions::engine_history::Entry;
 use node_world::World;
@@ -21,10 +21,10 @@ use std::marker::Model;
 /// The most sessions that an engine has.
 const MOST: usize = 8;
 
-/// Both ends of a tie. Contracts see its name.
+/// Both ends of an agreement. Contracts see its name.
 #[derive(Drop)]
 pub(crate) struct Ends {
-    book: Book,
+    far_end: FarEnd,
     mark: Mark,
 }
 
@@ -33,50 +33,50 @@ impl Model for Ends {
 
     ghost Value = { ℕ };
 
-    ghost view = { λ e. e.book.name };
+    ghost view = { λ e. e.far_end.name };
 
-    ghost invariant = { λ e. (e.book.number ≡ 0) × (e.mark ≡ e.book) };
+    ghost invariant = { λ e. (e.far_end.number ≡ 0) × (e.mark ≡ e.far_end) };
 }
 
 impl Ends {
     fn open() -> Ends {
-        let (book, mark) = Book::open();
-        Ends { book, mark }
+        let (far_end, mark) = FarEnd::open();
+        Ends { far_end, mark }
     }
 
     /// The two ends.
-    pub(crate) fn parted(self) -> (Book, Mark)
+    pub(crate) fn parted(self) -> (FarEnd, Mark)
         ensures name { result.0.name ≡ self }
         ensures start { result.0.number ≡ 0 }
         ensures mark { result.1 ≡ result.0 }
     {
-        let Ends { book, mark } = self;
-        (book, mark)
+        let Ends { far_end, mark } = self;
+        (far_end, mark)
     }
 }
 
-/// What a session is made of: its tie, and its seat at the marks.
+/// What a session is made of: its agreement, and its seat at the marks.
 #[derive(Drop)]
-pub(crate) struct Chair {
+pub(crate) struct SessionStart {
     pub(crate) ends: Ends,
     pub(crate) seat: Seat,
 }
 
-/// A row without entries, marks that nobody has raised, and a chair for each session.
+/// No entries, marks that nobody has raised, and what each session begins with.
 #[derive(Drop)]
 struct Seats {
-    row: Row<Entry>,
+    entries: Entries<Entry>,
     marks: Marks,
     seat: Seat,
-    chairs: Vec<Chair>,
+    session_starts: Vec<SessionStart>,
 }
 
 impl Seats {
     /// For so many sessions, at most 8. Refused Full, NoMemory.
     fn new(alloc: Global, sessions: usize) -> Result<Seats, Refusal>
         ensures raises { IfOk result (λ seats. seats.seat ≡ raiser seats.marks 0 0) }
-        ensures reads { IfOk result (λ seats. AllByRecursion (ReadsMarks seats.marks) seats.chairs.items) }
-        ensures count { IfOk result (λ seats. length seats.chairs.items ≡ sessions) }
+        ensures reads { IfOk result (λ seats. AllByRecursion (ReadsMarks seats.marks) seats.session_starts.items) }
+        ensures count { IfOk result (λ seats. length seats.session_starts.items ≡ sessions) }
         ensures within { IfOk result (λ seats. sessions ≤ 8) }
         ensures full { 8 < sessions → result ≡ Err Refusal.Full }
         ensures memory { sessions ≤ 8 → IfErr result (λ refusal. refusal ≡ Refusal.NoMemory) }
@@ -84,24 +84,24 @@ impl Seats {
         if sessions > MOST {
             return Err(Refusal::Full);
         }
-        let row = Row::new(alloc)?;
+        let entries = Entries::new(alloc)?;
         let (marks, seat, readers) = Marks::new(alloc, sessions)?;
-        let chairs = chairs(alloc, &marks, readers)?;
+        let session_starts = session_starts(alloc, &marks, readers)?;
         Ok(Seats {
-            row,
+            entries,
             marks,
             seat,
-            chairs,
+            session_starts,
         })
     }
 }
 
-/// Both components at their start, a row without entries, marks that nobody has raised, and a tie for each component and
+/// Both components at their start, no entries, marks that nobody has raised, and an agreement for each component and
 /// for the engine itself.
 #[derive(Drop)]
 pub(crate) struct Start<D: CrashLog, P: CrashPages> {
     pub(crate) alloc: Global,
-    pub(crate) row: Row<Entry>,
+    pub(crate) entries: Entries<Entry>,
     pub(crate) marks: Marks,
     pub(crate) seat: Seat,
     pub(crate) tc: Ends,
@@ -112,11 +112,12 @@ pub(crate) struct Start<D: CrashLog, P: CrashPages> {
 }
 
 /// What an engine is made of. Contracts see what it is known by. The components stand behind a pointer, since whoever has
-/// something large by value is dear to check; and the chairs beside it, since each is taken apart before those are.
+/// something large by value is dear to check; and what the sessions begin with beside it, since each of that is taken
+/// apart before those are.
 #[derive(Drop)]
 pub struct Opened<D: CrashLog = MemLog, P: CrashPages = MemPages> {
     pub(crate) start: Box<Start<D, P>>,
-    pub(crate) chairs: Vec<Chair>,
+    pub(crate) session_starts: Vec<SessionStart>,
 }
 
 impl<D: CrashLog, P: CrashPages> Model for Opened<D, P> {
@@ -132,9 +133,9 @@ impl<D: CrashLog, P: CrashPages> Model for Opened<D, P> {
     ghost coded = { Prim.hlevel (codes, shelves_coded, table_id_coded, table_code, pages_code) };
 
     ghost view = { λ o. opened_as (record { tc = o.start.value.transactions; dc = o.start.value.data })
-        o.start.value.row o.start.value.marks o.start.value.tc o.start.value.dc o.start.value.own o.chairs.items };
+        o.start.value.entries o.start.value.marks o.start.value.tc o.start.value.dc o.start.value.own o.session_starts.items };
 
-    ghost invariant = { λ o. IsOpenedWith o.start.value.marks o.start.value.seat o.chairs.items
+    ghost invariant = { λ o. IsOpenedWith o.start.value.marks o.start.value.seat o.session_starts.items
         (record { tc = o.start.value.transactions; dc = o.start.value.data }) };
 }
 
@@ -173,20 +174,20 @@ impl<D: CrashLog + Drop, P: CrashPages + Drop> Opened<D, P> {
     /// Over the node, with these seats.
     fn of(alloc: Global, world: World<D, P>, seats: Seats) -> Result<Opened<D, P>, AllocError>
         requires raises { seats.seat ≡ raiser seats.marks 0 0 }
-        requires reads { AllByRecursion (ReadsMarks seats.marks) seats.chairs.items }
+        requires reads { AllByRecursion (ReadsMarks seats.marks) seats.session_starts.items }
         ensures start { IfOk result (λ opened. node_at opened.start ≡ without_messages world) }
-        ensures count { IfOk result (λ opened. length opened.sessions ≡ length seats.chairs.items) }
+        ensures count { IfOk result (λ opened. length opened.sessions ≡ length seats.session_starts.items) }
     {
         let (transactions, data) = world.parted();
         let Seats {
-            row,
+            entries,
             marks,
             seat,
-            chairs,
+            session_starts,
         } = seats;
         let start = Start {
             alloc,
-            row,
+            entries,
             marks,
             seat,
             tc: Ends::open(),
@@ -197,24 +198,28 @@ impl<D: CrashLog + Drop, P: CrashPages + Drop> Opened<D, P> {
         };
         Ok(Opened {
             start: Box::new(alloc, start)?,
-            chairs,
+            session_starts,
         })
     }
 }
 
-// A chair for each seat.
-fn chairs(alloc: Global, marks: &Marks, readers: Vec<Seat>) -> Result<Vec<Chair>, AllocError>
+// What a session begins with, for each seat.
+fn session_starts(
+    alloc: Global,
+    marks: &Marks,
+    readers: Vec<Seat>,
+) -> Result<Vec<SessionStart>, AllocError>
     requires { All (λ seat. seat ≡ reader marks.now 0 0) readers.items }
-    ensures count { IfOk result (λ chairs. length chairs.items ≡ length readers.items) }
-    ensures readers { IfOk result (λ chairs. AllByRecursion (ReadsMarks marks.now) chairs.items) }
+    ensures count { IfOk result (λ session_starts. length session_starts.items ≡ length readers.items) }
+    ensures readers { IfOk result (λ session_starts. AllByRecursion (ReadsMarks marks.now) session_starts.items) }
 {
     let _ = marks;
-    let mut chairs = Vec::with_capacity(alloc, readers.len())?;
+    let mut session_starts = Vec::with_capacity(alloc, readers.len())?;
     for seat in readers {
-        chairs.push(Chair {
+        session_starts.push(SessionStart {
             ends: Ends::open(),
             seat,
         })?;
     }
-    Ok(chairs)
+    Ok(session_starts)
 }

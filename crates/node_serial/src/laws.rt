@@ -29,7 +29,7 @@ pub fn forget_law()
     ensures { ForgettingTellsNothing }
 {}
 
-/// The lines of an engine's journal are serial, with those of the node over which it was opened: by the clause `start`
+/// The lines of an engine's history are serial, with those of the node over which it was opened: by the clause `start`
 /// of `Opened::over`, and of what `Engine::close` leaves by the clauses `run` and `left` of `Closed::kept`. So the node
 /// that it leaves may go on, alone or as another engine's.
 pub fn close_law()

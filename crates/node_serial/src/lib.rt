@@ -1,6 +1,6 @@
 //! A node's lines are serial: what `serial_laws` says of a run of the list machine, said of what a node's calls give.
 //!
-//! Knows: what holds of a node's events and rounds and of an engine's journal by the contracts of their calls, and the
+//! Knows: what holds of a node's events and rounds and of an engine's history by the contracts of their calls, and the
 //! laws of such runs.
 //! Must not know: any code that makes a node or an engine, or steps it.
 //! Promises of a node, from where it was made on: whatever it was driven, stepped or settled by, and whatever an engine

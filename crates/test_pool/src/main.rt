@@ -5,7 +5,7 @@
 //! Must not know: how an engine serves its clients.
 //! Promises its reader to print how many cases agree, the names of those that differ, and how many gave up since they
 //! were refused memory themselves. What a client is told is compared with what is written out or with the plain model,
-//! and what clients noted with the engine's journal. A call that is refused memory is carried on, or made again, and has
+//! and what clients noted with the engine's history. A call that is refused memory is carried on, or made again, and has
 //! to be answered like any other then.
 #![tactic(auto)]
 

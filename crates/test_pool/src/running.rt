@@ -12,7 +12,7 @@ use std::sync::{Arc, Wait};
 use std::thread::Threads;
 use test_engine_cases::{Left, Seat};
 use test_pool_cases::{
-    Door, Hold, Leaves, Many, Part, Stage, Table, Verdict, both, is_journal, is_played, leaves,
+    Door, Hold, Leaves, Many, Part, Stage, Table, Verdict, both, is_history, is_played, leaves,
 };
 
 /// A case.
@@ -141,7 +141,7 @@ fn is_whole(agrees: Verdict) -> bool {
     matches!(agrees, Ok(true))
 }
 
-// What a case leaves that wasn't played to its end is judged by its journal alone.
+// What a case leaves that wasn't played to its end is judged by its history alone.
 fn judge<L: Leaves>(
     alloc: Global,
     closed: &L,
@@ -149,7 +149,7 @@ fn judge<L: Leaves>(
     case: &Case<'_>,
     whole: bool,
 ) -> Verdict {
-    if !is_journal(alloc, closed, parts, whole)? {
+    if !is_history(alloc, closed, parts, whole)? {
         return Ok(false);
     }
     match case {

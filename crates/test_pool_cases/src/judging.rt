@@ -9,9 +9,9 @@ use crate::{machine, parts};
 use std::alloc::Global;
 use test_model::node_laws::Out;
 
-/// Whether the journal is what the plain model says, and each session's part of it what its client noted; and where the
+/// Whether the history is what the plain model says, and each session's calls in it what its client noted; and where the
 /// case is whole, the records too.
-pub fn is_journal<L: Leaves>(alloc: Global, closed: &L, parts: &[Part], whole: bool) -> Verdict {
+pub fn is_history<L: Leaves>(alloc: Global, closed: &L, parts: &[Part], whole: bool) -> Verdict {
     for part in parts {
         if !parts::agrees(closed, part) {
             return Ok(false);

@@ -24,7 +24,7 @@ mod verdict;
 
 pub use call::Call;
 pub use client::{Client, Note};
-pub use judging::{is_journal, is_played, leaves};
+pub use judging::{is_history, is_played, leaves};
 pub use lines::{follow, parted, put_answer, room};
 pub use parts::Part;
 pub use plan::{CRASHES, Crash, FAILS, FAILURES, Many, Plan, Trouble, crash_at};

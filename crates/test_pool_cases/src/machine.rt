@@ -1,7 +1,7 @@
-//! The journal of an engine beside the plain slow model of its clients, step by step.
+//! The history of an engine beside the plain slow model of its clients, step by step.
 //!
 //! The model has one list of operations, with those crossed out that were rolled back, and reads and answers by a plain
-//! table of the others. Of a restart the journal tells how many records the log had then, and who is lost.
+//! table of the others. Of a restart the history tells how many records the log had then, and who is lost.
 use crate::client::is_failure;
 use crate::served::Leaves;
 use crate::verdict::Verdict;

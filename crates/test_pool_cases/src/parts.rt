@@ -1,4 +1,4 @@
-//! What each client noted, beside its session's part of the journal.
+//! What each client noted, beside its session's calls in the history.
 use crate::client::{Note, is_failure, txn_of};
 use crate::served::Leaves;
 use engine_answers::engine_history::{Lent, Step};
@@ -12,8 +12,8 @@ pub struct Part {
     pub notes: Vec<Note>,
 }
 
-/// Whether the session's part of the journal has just the noted calls, in their order, each answered as noted, but for those
-/// that a failure left unfinished. Of a call without a transaction or amid an unfinished one, or of a second beginning,
+/// Whether the history has just the noted calls of the session, in their order, each answered as noted, but for those that
+/// a failure left unfinished. Of a call without a transaction or amid an unfinished one, or of a second beginning,
 /// there is no entry.
 pub fn agrees<L: Leaves>(closed: &L, part: &Part) -> bool {
     let mut from = 0;

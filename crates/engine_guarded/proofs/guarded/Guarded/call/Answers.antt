@@ -2,7 +2,7 @@ use Rattle.std.proofs.Common.{◌≡◌, ◌<◌, ◌∙◌, List, Some, ap, sym
 use Rattle.std.proofs.lemmas.List.{length-map, length-set}
 use Rattle.std.proofs.lemmas.Option.{slice_get_read}
 use Rattle.std.specs.List.{AllByRecursion}
-use Rattle.engine_agreement.specs.Tied.{Tied}
+use Rattle.engine_agreement.specs.Agreed.{Agreed}
 use Rattle.engine_history.specs.declared.step.Step.{Step}
 use Rattle.engine_history.specs.node_laws.specs.Node.{NodeView}
 use Rattle.engine_history.specs.node_laws.specs.Stepping.{IsStep}
@@ -34,7 +34,7 @@ set-requires g c =
     let at : slice_get (map f ps) n ≡ Some p =
     subst (λ (xs : List Place). slice_get xs n ≡ Some p) c.hear_all.ensures.heard there in
     let own = own_place J.entries J.names c.self.inside.steps.items ps n e o p c.self.invariant.places_are at in
-    record { name = ap (λ (x : Place). x.book.name) own.2 ∙ own.1.name ∙ sym c.caller.invariant.name }
+    record { name = ap (λ (x : Place). x.far_end.name) own.2 ∙ own.1.name ∙ sym c.caller.invariant.name }
 
 pub invariant_of-self : goal.invariant_of-self
 invariant_of-self g c =
@@ -55,7 +55,7 @@ invariant_of-self g c =
     let there = slice_get_read qs (length qs) n p refl less c.index_mut-place.ensures.value in
     let at : slice_get (map f ps) n ≡ Some p =
     subst (λ (xs : List Place). slice_get xs n ≡ Some p) c.hear_all.ensures.heard there in
-    let r : Place = record p { book = c.set.new.self } in
+    let r : Place = record p { far_end = c.set.new.self } in
     let stepped : IsStep c.self.inside.world.value e o new =
     subst (λ (w : NodeView). IsStep w e o new) c.deref_mut.ensures.value c.stepped.ensures.node in
     let all = sym c.with_call.ensures in
@@ -66,8 +66,8 @@ invariant_of-self g c =
       places_are =
           subst (λ (w : List Step × List Place). PlacesKept J.entries J.names w.0 (set w.1 n r))
           (λ i. (all i, sym c.hear_all.ensures.heard i))
-          (places_called J.entries J.names es ps n e o p r p.book.name k.places_are at refl
-          (ap (λ (b : Tied). record p { book = b }) c.set.ensures.book));
+          (places_called J.entries J.names es ps n e o p r p.far_end.name k.places_are at refl
+          (ap (λ (b : Agreed). record p { far_end = b }) c.set.ensures.far_end));
       count = length-set qs n r ∙ count;
       owned =
           subst (AllByRecursion (IsOwned J.sessions)) all

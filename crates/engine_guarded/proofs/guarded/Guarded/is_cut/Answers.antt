@@ -1,8 +1,8 @@
 use Rattle.std.proofs.Common.{◌≡◌, ◌+◌, ◌<◌, ◌∙◌, false, List, length, refl, ap, sym, subst, arith}
 use Rattle.std.proofs.lemmas.Option.{slice_get_read}
 use Rattle.boxcar.specs.Table.{Shelves, Shows}
-use Rattle.engine_agreement.specs.Tied.{Tied}
-use Rattle.engine_history.specs.Sessions.{part_of}
+use Rattle.engine_agreement.specs.Agreed.{Agreed}
+use Rattle.engine_history.specs.Sessions.{calls_by}
 use Rattle.engine_history.specs.declared.step.Step.{Step}
 use Rattle.engine_guarded.specs.Callers.{CallerView, IsCut, is_busy}
 use Rattle.engine_guarded.specs.Slots.{seen}
@@ -34,12 +34,12 @@ agrees-requires g c =
     let k = c.self.invariant.places_are n p at in
     let idle : is_busy c.caller.inside.mark.number ≡ false =
     ap (λ (v : CallerView). v.busy) c.caller.view_is ∙ c.requires.rest in
-    let own = idle_is c.caller.inside.mark.number last.index c.caller.invariant.tied idle in
-    let number : p.book.number ≡ last.index + 1 = ap (λ (t : Tied). t.number) c.agree.ensures.agree ∙ own in
+    let own = idle_is c.caller.inside.mark.number last.index c.caller.invariant.agreed idle in
+    let number : p.far_end.number ≡ last.index + 1 = ap (λ (t : Agreed). t.number) c.agree.ensures.agree ∙ own in
     let there = (resting c.self.inside.steps.items n p last.index k.stands number).0 in
     let same : p.last.index ≡ last.index = omega (arith, there, number) in (
-      subst (λ (r : Shelves). Shows r p.last) (sym c.requires.row) k.shown.shows,
-      subst (λ (r : Shelves). Shows r last) (sym c.requires.row) c.caller.invariant.shown.shows,
+      subst (λ (r : Shelves). Shows r p.last) (sym c.requires.entries) k.shown.shows,
+      subst (λ (r : Shelves). Shows r last) (sym c.requires.entries) c.caller.invariant.shown.shows,
       same,
     )
 
@@ -58,9 +58,9 @@ returns-clause-cut g c is =
     let k = c.self.invariant.places_are n p at in
     let idle : is_busy c.caller.inside.mark.number ≡ false =
     ap (λ (v : CallerView). v.busy) c.caller.view_is ∙ c.requires.rest in
-    let own = idle_is c.caller.inside.mark.number last.index c.caller.invariant.tied idle in
-    let number : p.book.number ≡ last.index + 1 = ap (λ (t : Tied). t.number) c.agree.ensures.agree ∙ own in
+    let own = idle_is c.caller.inside.mark.number last.index c.caller.invariant.agreed idle in
+    let number : p.far_end.number ≡ last.index + 1 = ap (λ (t : Agreed). t.number) c.agree.ensures.agree ∙ own in
     let same : seen p.last ≡ seen last = ap (λ (e : Entry). e.past.items) c.agrees.ensures in
     let found = cut_off J.entries J.names n (seen last) es p last.index k number same (c.is_cut.ensures.live is) (c.is_cut.ensures.line is) in
-    subst (λ (w : CallerView × List Step). IsCut (part_of w.0.number w.0.steps) (part_of w.0.number w.1))
+    subst (λ (w : CallerView × List Step). IsCut (calls_by w.0.number w.0.steps) (calls_by w.0.number w.1))
     (λ i. (c.caller.view_is i, (c.self.view_is i).steps)) found

@@ -1,7 +1,7 @@
 use Rattle.std.proofs.Common.{ℕ, List, ◌∙◌, ap, sym, subst}
-use Rattle.engine_history.specs.Sessions.{part_of}
+use Rattle.engine_history.specs.Sessions.{calls_by}
 use Rattle.engine_history.specs.declared.step.Step.{Step}
-use Rattle.engine_guarded.specs.Callers.{CallerView, CallsWith, IsMade, IsNews}
+use Rattle.engine_guarded.specs.Callers.{CallerView, CallsWith, IsMade, IsStatus}
 use Rattle.engine_guarded.specs.Found.{Found}
 use Rattle.engine_guarded.proofs.Calls.{calls_with}
 use Rattle.engine_guarded.proofs.guarded.Guarded.make.Goals as goal
@@ -18,10 +18,10 @@ returns-clause-calls g c =
     let number = ap (λ (v : CallerView). v.number) c.call.ensures.caller in
     let busy = ap (λ (v : CallerView). v.busy) c.call.ensures.caller in
     let same = ap (λ (f : Found). f.steps) c.finish.ensures.same in
-    let found : IsMade n mid now → IsNews (part_of n mid) (part_of n now) r =
-    λ made. subst (λ (s : ℕ). IsNews (part_of s mid) (part_of s now) r) number
+    let found : IsMade n mid now → IsStatus (calls_by n mid) (calls_by n now) r =
+    λ made. subst (λ (s : ℕ). IsStatus (calls_by s mid) (calls_by s now) r) number
     (c.finish.ensures.amid busy mid (subst (λ (s : ℕ). IsMade s mid now) (sym number) made)) in
-    subst (λ (xs : List Step). CallsWith e o (part_of n before) r (part_of n xs)) (sym same)
+    subst (λ (xs : List Step). CallsWith e o (calls_by n before) r (calls_by n xs)) (sym same)
     (calls_with n before c.args.self.now.steps mid now e o r c.requires.sees c.requires.closed c.call.ensures.steps
     c.go_on.ensures.on (λ is. c.go_on.ensures.done (c.of.ensures is)) found)
 

@@ -27,11 +27,11 @@ invariant_of-self g c =
     subst (λ (v : View). EntersTc g.J.Naming.start v.steps e c.requires.enters.0) (sym c.meet.ensures.same) c.requires.enters.1 in
     tc_enters J.start J.entries J.names s.tokens.items s.asked.items s.given.items c.push_if-2.new.list.items
     c.push_if.new.list.items s.tc s.dc c.meet.new.self p e k
-    (subst (λ (r : Shelves). Shown r p) c.requires.row c.pushed-token.ensures.shown)
+    (subst (λ (r : Shelves). Shown r p) c.requires.entries c.pushed-token.ensures.shown)
     (ap (λ (x : Entry). x.step.value) c.pushed-token.ensures.value) before c.requires.tc c.requires.enters.0 enters
     (c.push_if-2.ensures.items ∙ ap (λ (xs : List Slot). xs ++ p ∷ []) c.make_room.ensures.items)
     (c.push_if.ensures.items ∙ (λ i. c.make_room-2.ensures.items i ++ cond ((c.is_some-asks.ensures ∙ ap (λ (x : Step). is_some x.sent) c.deref-2.ensures) i) (p ∷ []) []))
-    (c.meet.ensures.party ∙ ap (λ (x : Slot). record { name = s.tc.name; steps = through x.value }) c.again.ensures)
+    (c.meet.ensures.cursor_end ∙ ap (λ (x : Slot). record { name = s.tc.name; steps = through x.value }) c.again.ensures)
     enters.step.none
 
 pub returns-clause-gives : goal.returns-clause-gives
@@ -50,8 +50,8 @@ returns-clause-gives g c n enters =
     through_is J.start J.entries J.names s.tokens.items p e (ap (λ (x : Entry). x.step.value) c.pushed-token.ensures.value) before in
     let enters' : EntersTc g.J.Naming.start s.tc.steps e n =
     subst (λ (v : View). EntersTc g.J.Naming.start v.steps e n) (sym c.meet.ensures.same) enters in
-    let now : c.meet.new.visitor.steps ≡ steps s.tokens.items ++ e ∷ [] =
-    ap (λ (v : View). v.steps) (c.meet.ensures.visitor ∙ c.meet.ensures.party)
+    let now : c.meet.new.cursor.steps ≡ steps s.tokens.items ++ e ∷ [] =
+    ap (λ (v : View). v.steps) (c.meet.ensures.cursor ∙ c.meet.ensures.cursor_end)
     ∙ ap (λ (x : Slot). through x.value) c.again.ensures ∙ all in
     subst (λ (es : List Step). GivesTc g.J.Naming.start es n) (sym now)
     (tc_entered g.J.Naming.start s.tc.steps (steps s.tokens.items) e n c.requires.tc k.tc_sees enters')
@@ -59,5 +59,5 @@ returns-clause-gives g c n enters =
 pub returns-clause-sees : goal.returns-clause-sees
 returns-clause-sees g c =
     let s = c.self.inside in
-    subst (λ (es : List Step). Sees is_tc c.args.visitor.now.steps es) c.self.view_is
+    subst (λ (es : List Step). Sees is_tc c.args.cursor.now.steps es) c.self.view_is
     (subst (λ (v : View). Sees is_tc v.steps (steps s.tokens.items)) c.meet.ensures.same c.self.invariant.tc_sees)

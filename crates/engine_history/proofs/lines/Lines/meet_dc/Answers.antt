@@ -24,7 +24,7 @@ invariant_of-self g c =
       tc_sees = k.tc_sees;
       dc_sees =
           sees_all is_dc c.meet.new.self.steps (steps s.tokens.items)
-          (sym (ap (λ (v : View). v.steps) c.meet.ensures.party
+          (sym (ap (λ (v : View). v.steps) c.meet.ensures.cursor_end
           ∙ last_seen J.start J.entries J.names s.tokens.items s.asked.items s.given.items s.tc s.dc k c.last_of-last.result
           (c.last_of-last.ensures ∙ ap (λ (xs : List Slot). last_of xs) c.deref.ensures.value)));
     }

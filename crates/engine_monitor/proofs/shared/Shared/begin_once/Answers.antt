@@ -2,20 +2,20 @@ use Rattle.std.proofs.Common.{◌≡◌, ◌∙◌, ◌++◌, ◌∷◌, [], ℕ
 use Rattle.std.specs.Prelude.{IfSome}
 use Rattle.engine_guarded.specs.Callers.{CallerView}
 use Rattle.engine_guarded.specs.Running.{made}
-use Rattle.engine_guarded.specs.declared.news.News.{News}
-use Rattle.engine_guarded.specs.engine_history.specs.Sessions.{is_pending, part_of}
+use Rattle.engine_guarded.specs.declared.status.CallStatus.{CallStatus}
+use Rattle.engine_guarded.specs.engine_history.specs.Sessions.{is_pending, calls_by}
 use Rattle.engine_guarded.specs.engine_history.specs.declared.step.Step.{Step}
 use Rattle.engine_guarded.specs.engine_history.specs.node_laws.specs.declared.event.Event.TheVariants as event
 use Rattle.engine_guarded.specs.engine_history.specs.node_laws.specs.declared.event.Out.{Out}
 use Rattle.engine_monitor.specs.Beginning.{BeginsAlone}
 use Rattle.engine_monitor.proofs.shared.Shared.begin_once.Goals as goal
 
-begins : (r : Option News) (s : ℕ) (es now later : List Step) (o : Out) → later ≡ now
-    → IfSome r (λ news. (part_of s es).live ≡ None)
-    → IfSome r (λ news. is_pending o ≡ false → now ≡ es ++ made (Some s) event.Begin o ∷ [])
-    → IfSome r (λ news. BeginsAlone s o later)
+begins : (r : Option CallStatus) (s : ℕ) (es now later : List Step) (o : Out) → later ≡ now
+    → IfSome r (λ status. (calls_by s es).live ≡ None)
+    → IfSome r (λ status. is_pending o ≡ false → now ≡ es ++ made (Some s) event.Begin o ∷ [])
+    → IfSome r (λ status. BeginsAlone s o later)
 begins None s es now later o same none last = tt
-begins (Some news) s es now later o same none last =
+begins (Some status) s es now later o same none last =
     record { before = es; none = none; last = λ is. same ∙ last is }
 
 pub returns-clause-alone : goal.returns-clause-alone

@@ -7,34 +7,34 @@ use Rattle.engine_shared.specs.node_laws.specs.declared.event.Out.TheVariants as
 use Rattle.engine_shared.specs.engine_answers.specs.declared.ended.Ended.{Ended}
 use Rattle.engine_shared.specs.engine_answers.specs.declared.ended.Ended.TheVariants as ended
 use Rattle.engine_shared.specs.engine_answers.specs.Answers.{AddsCall, Ends, IsToldAs, TellsCommit}
-use Rattle.engine_shared.specs.engine_history.specs.Sessions.{Part, ends}
+use Rattle.engine_shared.specs.engine_history.specs.Sessions.{SessionCalls, ends}
 use Rattle.engine_shared.specs.engine_answers.proofs.Telling.{commits as committed}
 use Rattle.engine_sessions.proofs.session.Session.commit.Goals as goal
 
 -- a commit that was told
-abbrev Committed : ℕ → Part → Part → Type 0
+abbrev Committed : ℕ → SessionCalls → SessionCalls → Type 0
 Committed n old new =
     (u : ℕ) × ((t : ℕ) × (old.live ≡ Some t)
     × AddsCall (event.Commit t) (out.CommitLogged n) (Some (TellsCommitted u)) old new) × (new.live ≡ None)
 
-commits : (row : Shelves) (how : Ended) (old new : Part) (n t : ℕ) → old.live ≡ Some t
-    → Ends row (event.Commit t) old how new → IsToldAs (λ (o : Out). o ≡ out.CommitLogged n) TellsCommit how
+commits : (entries : Shelves) (how : Ended) (old new : SessionCalls) (n t : ℕ) → old.live ≡ Some t
+    → Ends entries (event.Commit t) old how new → IsToldAs (λ (o : Out). o ≡ out.CommitLogged n) TellsCommit how
     → Committed n old new
-commits row (ended.Told p q) old new n t live (p_shown, q_shown, pending, (u, (line, is, over, adds))) (call, what) =
+commits entries (ended.Told p q) old new n t live (p_shown, q_shown, pending, (u, (line, is, over, adds))) (call, what) =
     let told = committed u q.value.step.value.out line is what in
     let so = subst (λ (l : Line). AddsCall (event.Commit t) p.value.step.value.out (Some l) old new) told adds in (
       u,
       (t, live, subst (λ (o : Out). AddsCall (event.Commit t) o (Some (TellsCommitted u)) old new) call so),
       over (ap ends told),
     )
-commits row (ended.AtOnce p) old new n t live how told = absurd told
-commits row ended.CutOff old new n t live how told = absurd told
-commits row (ended.Unfinished u f) old new n t live how told = absurd told
+commits entries (ended.AtOnce p) old new n t live how told = absurd told
+commits entries ended.CutOff old new n t live how told = absurd told
+commits entries (ended.Unfinished u f) old new n t live how told = absurd told
 
 pub returns-clause-committed : goal.returns-clause-committed
 returns-clause-committed g c =
-    let old = c.args.self.now.part in
+    let old = c.args.self.now.calls in
     let run = c.in_ok-ended.ensures.ends in
     let n = c.in_ok-number.number in
-    subst (λ (p : Part). Committed n old p) (sym c.learn.ensures.same.1)
-    (commits g.J.Naming.entries c.in_ok-ended.ended old c.run.new.self.part n run.0 run.1 run.2 c.in_ok-number.ensures.told)
+    subst (λ (p : SessionCalls). Committed n old p) (sym c.learn.ensures.same.1)
+    (commits g.J.Naming.entries c.in_ok-ended.ended old c.run.new.self.calls n run.0 run.1 run.2 c.in_ok-number.ensures.told)

@@ -7,6 +7,6 @@ use Rattle.engine_sessions.proofs.session.Session.run.Goals as goal
 
 pub returns-clause-ends : goal.returns-clause-ends
 returns-clause-ends g c =
-    subst (λ (old : SessionView). IfOk c.run.result (λ ended. (t : ℕ) × (old.part.live ≡ Some t)
-    × Ends g.J.Naming.entries (event_of t c.args.ask) old.part ended c.run.new.caller.part))
+    subst (λ (old : SessionView). IfOk c.run.result (λ ended. (t : ℕ) × (old.calls.live ≡ Some t)
+    × Ends g.J.Naming.entries (event_of t c.args.ask) old.calls ended c.run.new.caller.calls))
     c.self.view_is c.run.ensures.ends

@@ -1,6 +1,6 @@
 use Rattle.std.specs.Prelude.{◌≡◌, true, IfOk, IfSome, OnOk}
 use Rattle.std.proofs.Common.{Option, ℕ, sym, subst}
-use Rattle.engine_answers.specs.engine_history.specs.Desks.{DcFound}
+use Rattle.engine_answers.specs.engine_history.specs.Latched.{DcFound}
 use Rattle.engine_answers.specs.engine_history.specs.Steps.{GivesDc}
 use Rattle.engine_answers.specs.engine_history.specs.Witnessed.{AreWitnessed, DcRan}
 use Rattle.engine_shared.proofs.Results.{alone, ran_in}

@@ -10,7 +10,7 @@ use Rattle.engine_workers.proofs.closed.Closed.kept.Goals as goal
 pub returns-clause-run : goal.returns-clause-run
 returns-clause-run g c =
     subst (λ (v : ClosedView). RunsFrom g.J.Naming.start v.steps) c.self.view_is
-    (subst (λ (es : List Step). RunsFrom g.J.Naming.start es) (λ i. (c.deref.ensures i).journal) c.is_run.ensures)
+    (subst (λ (es : List Step). RunsFrom g.J.Naming.start es) (λ i. (c.deref.ensures i).history) c.is_run.ensures)
 
 pub returns-clause-rows : goal.returns-clause-rows
 returns-clause-rows g c =

@@ -10,14 +10,14 @@ use Rattle.engine_workers.proofs.engine.Engine.close.Goals as goal
 
 pub returns-clause-kept : goal.returns-clause-kept
 returns-clause-kept g c =
-    let es = c.into_parts-hall.result.1 in
-    let tc = c.into_parts-hall.result.2.state.side.tc.stable in
-    let last = c.node_of_desks.new.journal in
+    let es = c.into_parts-published.result.1 in
+    let tc = c.into_parts-published.result.2.state.side.tc.stable in
+    let last = c.node_of_latched.new.history in
     let node = c.in_ok-node.node.value in
-    let same : last ≡ es = c.node_of_desks.ensures.same ∙ c.review.ensures.same ∙ c.cover.ensures.same.0 in
+    let same : last ≡ es = c.node_of_latched.ensures.same ∙ c.review.ensures.same ∙ c.cover.ensures.same.0 in
     let stable : node.tc.stable ≡ tc =
     c.in_ok-node.ensures.stable ∙ ap (λ (s : TcState). s.side.tc.stable) c.cover.ensures.same.1 in
-    let covered = subst (AllByRecursion (IsCovered es tc)) c.in_ok-sitters.ensures.sitters c.cover.ensures.covered in
+    let covered = subst (AllByRecursion (IsCovered es tc)) c.in_ok-states.ensures.states c.cover.ensures.covered in
     let kept = all_map seen_of (IsCovered es tc) c.args.sessions.items covered in
     let steps = subst (λ (xs : List Step). AllByRecursion (IsKeptBy xs tc) c.args.sessions.items) (sym same) kept in
     let all = subst (λ (n : ℕ). AllByRecursion (IsKeptBy last n) c.args.sessions.items) (sym stable) steps in

@@ -1,6 +1,0 @@
-use Rattle.std.proofs.Common.{subst}
-use Rattle.engine_history.specs.Steps.{RunsFrom}
-use Rattle.engine_history.proofs.journal.Journal.is_run.Goals as goal
-
-pub returns : goal.returns
-returns g c = subst (RunsFrom g.J.Naming.start) c.self.view_is c.is_run.ensures
