@@ -4,7 +4,8 @@
 # stores (bench/damage.py), lists in its help what docs/FORMATS.md lists (tests/help.sh), tells on standard error what it
 # is to (tests/told.py), commits on a store that is copied meanwhile (tests/copied.py), and is two processes: joined by pipes
 # (tests/halves.py), with a network between them (tests/network.py, ten runs), and so that one process does the same
-# (tests/halves_drawn.py, twenty runs). First that docs/CONTRACTS.md is what the sources say. Takes a minute or two.
+# (tests/halves_drawn.py, twenty runs); and clients of an engine get their turns, and are killed on a store
+# (tests/engine.py). First that docs/CONTRACTS.md is what the sources say. Takes a minute or two.
 set -eu
 cd "$(dirname "$0")/.."
 python3 docs/contracts.py --check
@@ -19,6 +20,11 @@ python3 tests/told.py "$shell"
 python3 tests/copied.py "$shell"
 python3 tests/halves.py "$shell"
 python3 tests/network.py "$shell" 10 500
+bench=crates/bench_node/out/bench_node
+if [ ! -x "$bench" ]; then
+    (cd crates/bench_node && rt run -- x one 0) >/dev/null
+fi
+python3 tests/engine.py "$bench" "$shell"
 drawn=$(mktemp -d)
 for seed in $(seq 20); do
     python3 tests/halves_drawn.py "$shell" "$drawn/run" "$seed"

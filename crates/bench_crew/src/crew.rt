@@ -1,5 +1,6 @@
 //! What several clients of one engine do.
 use crate::draws::{drawn, seed};
+use std::time::Duration;
 
 /// How many clients there are. Each has keys of its own.
 pub const CLIENTS: u8 = 4;
@@ -19,6 +20,10 @@ enum Manner {
     HalfUndone,
     /// The work of `Commits` by one session.
     Alone,
+    /// Eight clients commit for so many milliseconds as there are to be operations, and say how often they did.
+    Turns,
+    /// Each client counts in a record of its own up to so many, and says each number once it is committed.
+    Tells,
 }
 
 /// Clients that have so many operations together.
@@ -26,6 +31,7 @@ enum Manner {
 pub struct Crew {
     manner: Manner,
     operations: u64,
+    is_monitored: bool,
 }
 
 /// A client's share of the work.
@@ -39,20 +45,65 @@ pub struct Share {
 }
 
 impl Crew {
-    /// The work of this name. Those of one letter are named as other programs name theirs.
+    /// The work of this name. Those of one letter are named as other programs name theirs; what is called `monitor-` and so
+    /// is done by the engine under one lock.
     pub fn named(name: &str, operations: u64) -> Option<Crew> {
-        let manner = match name.as_bytes() {
+        let (is_monitored, name) = match name.as_bytes() {
+            [b'm', b'o', b'n', b'i', b't', b'o', b'r', b'-', name @ ..] => (true, name),
+            name => (false, name),
+        };
+        let manner = match name {
             b"g" => Manner::Commits,
             b"h" => Manner::HalfUndone,
             b"one" => Manner::Alone,
+            b"turns" => Manner::Turns,
+            b"tells" => Manner::Tells,
             _ => return None,
         };
-        Some(Crew { manner, operations })
+        Some(Crew {
+            manner,
+            operations,
+            is_monitored,
+        })
+    }
+
+    /// Whether the engine under one lock does it.
+    pub fn is_monitored(self) -> bool {
+        self.is_monitored
+    }
+
+    /// How many sessions there are.
+    pub fn sessions(self) -> usize {
+        match self.manner {
+            Manner::Turns => 8,
+            _ => usize::from(CLIENTS),
+        }
+    }
+
+    /// Whether records stand there before the work.
+    pub fn is_loaded(self) -> bool {
+        self.manner != Manner::Tells
     }
 
     /// Whether one session does it all.
     pub fn is_alone(self) -> bool {
         self.manner == Manner::Alone
+    }
+
+    /// For how long each client commits, where it is time that ends the work.
+    pub fn lasts(self) -> Option<Duration> {
+        match self.manner {
+            Manner::Turns => Some(Duration::from_millis(self.operations)),
+            _ => None,
+        }
+    }
+
+    /// Up to which number each client counts, where that is the work.
+    pub fn counts(self) -> Option<u64> {
+        match self.manner {
+            Manner::Tells => Some(self.operations),
+            _ => None,
+        }
     }
 
     /// The share of a client.

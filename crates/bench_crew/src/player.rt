@@ -1,21 +1,20 @@
 //! One client of an engine.
 use crate::crew::{IN_TRANSACTION, Share};
 use crate::draws::{KEYS, Values, key_of, mix};
-use crate::quiet::Quiet;
-use engine_workers::{Naming, Session};
-use record_key::{Op, Refusal};
-use stable::{CrashLog, CrashPages};
+use engine_workers::Calls;
+use record_key::{Key, Op, Refusal, Value};
 use std::sync::Wait;
+use std::time::{Clock, Duration, Instant};
 
 /// A session, and whether all that it was asked was done.
 #[derive(Drop)]
-pub struct Player<J: Naming, D: CrashLog, P: CrashPages> {
-    session: Session<J, Quiet, D, P>,
+pub struct Player<S> {
+    session: S,
     done: Result<(), Refusal>,
 }
 
-impl<J: Naming, D: CrashLog + Drop, P: CrashPages + Drop> Player<J, D, P> {
-    pub fn new(session: Session<J, Quiet, D, P>) -> Player<J, D, P> {
+impl<S: Calls + Drop> Player<S> {
+    pub fn new(session: S) -> Player<S> {
         Player {
             session,
             done: Ok(()),
@@ -34,6 +33,20 @@ impl<J: Naming, D: CrashLog + Drop, P: CrashPages + Drop> Player<J, D, P> {
         }
     }
 
+    /// Commits for so long, and says how often it did.
+    pub fn take_turns<R: Clock + Print + Wait>(&mut self, rt: &R, client: u8, lasts: Duration) {
+        if self.done.is_ok() {
+            self.done = take_turns(rt, &mut self.session, client, lasts);
+        }
+    }
+
+    /// Counts up to a number, and says each number once it is committed.
+    pub fn tell<R: Print + Wait>(&mut self, rt: &R, client: u8, last: u64) {
+        if self.done.is_ok() {
+            self.done = tell(rt, &mut self.session, client, last);
+        }
+    }
+
     /// What stands before the work.
     pub fn load<R: Wait>(&mut self, rt: &R, values: &Values) -> Result<(), Refusal> {
         for place in 0..KEYS / 200 {
@@ -43,9 +56,9 @@ impl<J: Naming, D: CrashLog + Drop, P: CrashPages + Drop> Player<J, D, P> {
     }
 }
 
-fn load_hundred<J: Naming, D: CrashLog + Drop, P: CrashPages + Drop, R: Wait>(
+fn load_hundred<S: Calls, R: Wait>(
     rt: &R,
-    session: &mut Session<J, Quiet, D, P>,
+    session: &mut S,
     values: &Values,
     first: u64,
 ) -> Result<(), Refusal> {
@@ -58,9 +71,9 @@ fn load_hundred<J: Naming, D: CrashLog + Drop, P: CrashPages + Drop, R: Wait>(
     Ok(())
 }
 
-fn play<J: Naming, D: CrashLog + Drop, P: CrashPages + Drop, R: Wait>(
+fn play<S: Calls, R: Wait>(
     rt: &R,
-    session: &mut Session<J, Quiet, D, P>,
+    session: &mut S,
     values: &Values,
     share: Share,
 ) -> Result<(), Refusal> {
@@ -70,9 +83,9 @@ fn play<J: Naming, D: CrashLog + Drop, P: CrashPages + Drop, R: Wait>(
     Ok(())
 }
 
-fn play_one<J: Naming, D: CrashLog + Drop, P: CrashPages + Drop, R: Wait>(
+fn play_one<S: Calls, R: Wait>(
     rt: &R,
-    session: &mut Session<J, Quiet, D, P>,
+    session: &mut S,
     values: &Values,
     share: Share,
     transaction: u64,
@@ -89,12 +102,70 @@ fn play_one<J: Naming, D: CrashLog + Drop, P: CrashPages + Drop, R: Wait>(
     Ok(())
 }
 
-fn upsert<J: Naming, D: CrashLog + Drop, P: CrashPages + Drop, R: Wait>(
+fn upsert<S: Calls, R: Wait>(
     rt: &R,
-    session: &mut Session<J, Quiet, D, P>,
+    session: &mut S,
     values: &Values,
     (key, draw): (u64, u64),
 ) -> Result<(), Refusal> {
     session.act(rt, &Op::Upsert(key_of(key)?, values.of(draw)?))?;
     Ok(())
+}
+
+fn take_turns<S: Calls, R: Clock + Print + Wait>(
+    rt: &R,
+    session: &mut S,
+    client: u8,
+    lasts: Duration,
+) -> Result<(), Refusal> {
+    let start = now(rt)?;
+    for turns in 0..u64::MAX {
+        if now(rt)?.duration_since(start) >= lasts {
+            return say(rt, client, turns);
+        }
+        count(rt, session, client, turns)?;
+    }
+    Ok(())
+}
+
+fn tell<S: Calls, R: Print + Wait>(
+    rt: &R,
+    session: &mut S,
+    client: u8,
+    last: u64,
+) -> Result<(), Refusal> {
+    for number in 1..=last {
+        count(rt, session, client, number)?;
+        say(rt, client, number)?;
+    }
+    Ok(())
+}
+
+// Commits a number in the client's own record.
+fn count<S: Calls, R: Wait>(
+    rt: &R,
+    session: &mut S,
+    client: u8,
+    number: u64,
+) -> Result<(), Refusal> {
+    let value = Value::new(&number.to_be_bytes())?;
+    session.begin(rt)?;
+    session.act(rt, &Op::Upsert(Key::new(&[b'A' + client % 26])?, value))?;
+    session.commit(rt)?;
+    Ok(())
+}
+
+// (a clock or a reader that isn't there ends the work, as a device does that fails)
+fn now<R: Clock>(rt: &R) -> Result<Instant, Refusal> {
+    match Instant::now(rt) {
+        Ok(now) => Ok(now),
+        Err(_) => Err(Refusal::Device),
+    }
+}
+
+fn say<R: Print>(rt: &R, client: u8, number: u64) -> Result<(), Refusal> {
+    match println!(rt; "{client} {number}") {
+        Ok(()) => Ok(()),
+        Err(_) => Err(Refusal::Device),
+    }
 }

@@ -59,10 +59,7 @@ where
     };
     let (name, workload) = (name.as_str(), workload.as_str());
     if let Some(crew) = Crew::named(workload, operations) {
-        let outcome = match folder {
-            [folder, ..] => bench_crew::measured_on(rt, alloc, folder.as_str(), crew)?,
-            [] => bench_crew::measured(rt, alloc, crew)?,
-        };
+        let outcome = crew_outcome(rt, alloc, crew, folder)?;
         return print_outcome(&rt, name, workload, (operations, operations), &outcome);
     }
     let Some(what) = Workload::named(workload) else {
@@ -76,6 +73,28 @@ where
         operations
     };
     print_outcome(&rt, name, workload, (operations, done), &outcome)
+}
+
+/// What a crew's work comes to: over the store of a folder, if one is named.
+fn crew_outcome<R>(rt: R, alloc: Global, crew: Crew, folder: &[String]) -> io::Result<Outcome>
+where
+    R: Files<File = File>
+        + AllocGlobal
+        + Clock
+        + Print
+        + Threads
+        + Wait
+        + Copy
+        + Send
+        + Sync
+        + 'static,
+{
+    match (folder, crew.is_monitored()) {
+        ([folder, ..], true) => bench_crew::monitored_on(rt, alloc, folder.as_str(), crew),
+        ([folder, ..], false) => bench_crew::measured_on(rt, alloc, folder.as_str(), crew),
+        ([], true) => bench_crew::monitored(rt, alloc, crew),
+        ([], false) => bench_crew::measured(rt, alloc, crew),
+    }
 }
 
 /// Prints a run of the workload at a number, with so many operations done.

@@ -1,5 +1,4 @@
 //! The node that an engine leaves goes on, and is renewed.
-use engine_workers::{Closed, Naming};
 use node_store::renew;
 use node_world::{World, bring_up};
 use record_key::{Key, Value};
@@ -7,17 +6,17 @@ use stable::{MemLog, MemPages};
 use std::alloc::{AllocError, Global};
 use test_pool_cases::Verdict;
 
-type Row = (Key, Value);
+/// A record.
+pub type Row = (Key, Value);
 
-/// Whether what the engine left, brought to rest, has the records with which the engine ended, where it was quiet then;
-/// and whether its renewed node has the same.
-pub fn goes_on<J: Naming + Drop>(alloc: Global, closed: Closed<J>) -> Verdict {
-    let rows = copied(alloc, closed.rows().unwrap_or(&[]))?;
-    let mut node = closed.into_node();
+/// Whether the node that an engine left, brought to rest, has the records with which the engine ended, where it was quiet
+/// then; and whether its renewed node has the same.
+pub fn goes_on(alloc: Global, rows: &[Row], node: Box<World>) -> Verdict {
+    let mut node = node;
     let was_quiet = node.is_quiet();
     bring_up(&mut *node, &mut Vec::new(alloc))?;
     let kept = node.rows()?;
-    if was_quiet && kept.as_slice() != rows.as_slice() {
+    if was_quiet && kept.as_slice() != rows {
         return Ok(false);
     }
     is_renewed(alloc, &node, kept.as_slice())
@@ -47,7 +46,8 @@ fn has_rows(alloc: Global, node: World, rows: &[Row]) -> Verdict {
     Ok(node.rows()?.as_slice() == rows)
 }
 
-fn copied(alloc: Global, rows: &[Row]) -> Result<Vec<Row>, AllocError> {
+/// The same records again.
+pub fn copied(alloc: Global, rows: &[Row]) -> Result<Vec<Row>, AllocError> {
     let mut copies = Vec::with_capacity(alloc, rows.len())?;
     for (key, value) in rows {
         copies.push((key.copied(), value.copied()))?;

@@ -1,4 +1,4 @@
-//! Cases of an engine whose clients are threads.
+//! Cases of the two engines whose clients are threads: on three locks with workers, and under one lock.
 //!
 //! Knows: the public calls of an engine and its sessions, what each call of its data is to be answered, and the plain
 //! model of a node's clients.
@@ -10,19 +10,23 @@
 #![tactic(auto)]
 
 mod going_on;
+mod monitored;
+mod playing;
 mod running;
 mod tally;
 mod threads;
 
 use engine_workers::Opened;
+use monitored::run_monitored;
+use playing::Case;
 use record_key::Refusal;
-use running::{Case, run_case};
+use running::run_case;
 use std::alloc::Global;
 use std::sync::Wait;
 use std::thread::Threads;
 use std::{fs, io};
 use tally::Tally;
-use test_pool_cases::{Many, Table, Verdict};
+use test_pool_cases::{Hold, Many, Table, Verdict};
 
 fn main(rt: HostRuntime) -> io::Result<()> {
     let alloc = rt.alloc();
@@ -56,35 +60,60 @@ where
     for block in text.split("\n\n") {
         let block = block.trim();
         if is_case(block) {
-            tally.count(name_of(block), run_table(rt, alloc, block));
+            count_table(rt, alloc, block, tally);
         }
     }
 }
 
-fn run_table<R>(rt: R, alloc: Global, block: &str) -> Verdict
+// Counts a case that is written out, on each engine that it is for.
+fn count_table<R>(rt: R, alloc: Global, block: &str, tally: &mut Tally)
 where
     R: Threads + Wait + Copy + Send + 'static,
 {
-    run_case(rt, alloc, Case::Table(Table::read(alloc, block)?))
+    let name = name_of(block);
+    match Table::read(alloc, block) {
+        Ok(table) => run_table(rt, alloc, name, table, tally),
+        Err(refusal) => tally.count(name, Err(refusal)),
+    }
 }
 
-// Runs the cases whose calls are drawn, each a line.
+// No message waits at a gate under one lock.
+fn run_table<R>(rt: R, alloc: Global, name: &str, table: Table<'_>, tally: &mut Tally)
+where
+    R: Threads + Wait + Copy + Send + 'static,
+{
+    if !name.ends_with("_under_one_lock") {
+        tally.count(name, run_case(rt, alloc, Case::Table(table)));
+    }
+    if !name.ends_with("_on_three_locks") && table.hold == Hold::Nowhere {
+        tally.count(name, run_monitored(rt, alloc, Case::Table(table)));
+    }
+}
+
+// Runs the cases whose calls are drawn, each a line, on both engines.
 fn run_plans<R>(rt: R, alloc: Global, text: &str, tally: &mut Tally)
 where
     R: Threads + Wait + Copy + Send + 'static,
 {
     for line in text.lines() {
         if is_case(line) {
-            tally.count(name_of(line), run_plan(rt, alloc, line));
+            run_plan(rt, alloc, line, tally);
         }
     }
 }
 
-fn run_plan<R>(rt: R, alloc: Global, line: &str) -> Verdict
+fn run_plan<R>(rt: R, alloc: Global, line: &str, tally: &mut Tally)
 where
     R: Threads + Wait + Copy + Send + 'static,
 {
-    run_case(rt, alloc, Case::Many(Many::read(alloc, line)?))
+    let name = name_of(line);
+    match Many::read(alloc, line) {
+        Ok(many) => {
+            tally.count(name, run_case(rt, alloc, Case::Many(many)));
+            tally.count(name, run_monitored(rt, alloc, Case::Many(many)));
+        }
+        Err(refusal) => tally.count(name, Err(refusal)),
+    }
 }
 
 // An engine has at most eight sessions.

@@ -1,66 +1,34 @@
-//! A case, from its engine's first thread to its verdict.
+//! A case on three locks, from its engine's first thread to its verdict.
 ghost use Rattle.std.specs.Prelude.{◌<◌};
 ghost use Rattle.engine_workers.specs.Opened.{IsNamed};
 
-use crate::going_on::goes_on;
-use crate::threads::{Client, play_many, play_table};
-use engine_workers::{Engine, Naming, Opened, Session};
-use record_key::Refusal;
-use std::alloc::{AllocError, Global};
+use crate::going_on::{copied, goes_on};
+use crate::playing::{Case, Played, play};
+use engine_workers::{Closed, Engine, Naming, Opened, Session, Step};
+use record_key::{Key, Value};
+use std::alloc::Global;
 use std::marker::Brand;
 use std::sync::{Arc, Wait};
 use std::thread::Threads;
-use test_engine_cases::{Left, Seat};
-use test_pool_cases::{
-    Door, Hold, Leaves, Many, Part, Stage, Table, Verdict, both, is_history, is_played, leaves,
-};
+use test_pool_cases::{Door, Leaves, Part, Stage, Verdict, both, is_history, is_played, leaves};
 
-/// A case.
-#[derive(Clone, Copy)]
-pub enum Case<'a> {
-    Table(Table<'a>),
-    Many(Many),
-}
-
-impl Case<'_> {
-    fn sessions(&self) -> usize {
-        match self {
-            Case::Table(table) => table.sessions,
-            Case::Many(many) => many.sessions,
-        }
-    }
-
-    fn workers(&self) -> usize {
-        match self {
-            Case::Table(table) => table.workers,
-            Case::Many(many) => many.workers,
-        }
-    }
-
-    fn hold(&self) -> Hold {
-        match self {
-            Case::Table(table) => table.hold,
-            Case::Many(_) => Hold::Briefly,
-        }
-    }
-}
-
-/// What the clients leave: their sessions, what each noted, and whether all was as it is to be so far.
+/// What an engine left.
 #[derive(Drop)]
-struct Played<J: Naming> {
-    sessions: Vec<Session<J, Door>>,
-    parts: Vec<Part>,
-    agrees: Verdict,
+struct Left<'a, J: Naming> {
+    closed: &'a Closed<J>,
 }
 
-impl<J: Naming + Drop> Played<J> {
-    // Takes a client's session and notes.
-    fn take(&mut self, client: Client<J>) -> Result<(), AllocError> {
-        let session = client.number();
-        let (seat, notes) = client.parted();
-        self.sessions.push(seat.into_session())?;
-        self.parts.push(Part { session, notes })?;
-        Ok(())
+impl<J: Naming> Leaves for Left<'_, J> {
+    fn count(&self) -> usize {
+        self.closed.len()
+    }
+
+    fn step_at(&self, place: usize) -> Option<&Step> {
+        self.closed.step(place)
+    }
+
+    fn records(&self) -> Option<&[(Key, Value)]> {
+        self.closed.rows()
     }
 }
 
@@ -113,7 +81,7 @@ fn close<J, R>(
     rt: R,
     alloc: Global,
     engine: Engine<J, Door>,
-    played: Played<J>,
+    played: Played<Session<J, Door>>,
     case: &Case<'_>,
 ) -> Verdict
 where
@@ -126,14 +94,15 @@ where
         agrees,
     } = played;
     let closed = engine.close(&rt, sessions)?;
-    let judged = judge(
-        alloc,
-        &Left { closed: &closed },
-        &parts,
-        case,
-        is_whole(agrees),
-    );
-    both(both(agrees, judged), goes_on(alloc, closed))
+    let left = Left { closed: &closed };
+    let judged = judge(alloc, &left, &parts, case, is_whole(agrees));
+    both(both(agrees, judged), went_on(alloc, closed))
+}
+
+// Whether the node that is left goes on.
+fn went_on<J: Naming + Drop>(alloc: Global, closed: Closed<J>) -> Verdict {
+    let rows = copied(alloc, closed.rows().unwrap_or(&[]))?;
+    goes_on(alloc, rows.as_slice(), closed.into_node())
 }
 
 // Whether the case was played to its end.
@@ -157,62 +126,4 @@ fn judge<L: Leaves>(
         Case::Table(table) => leaves(alloc, closed, table.left),
         Case::Many(many) => is_played(closed, many),
     }
-}
-
-// Lets the clients play. Where there is no memory for them they are gone.
-fn play<J, R>(
-    rt: R,
-    alloc: Global,
-    engine: &mut Engine<J, Door>,
-    sessions: Vec<Session<J, Door>>,
-    stage: &Arc<Stage>,
-    case: &Case<'_>,
-) -> Played<J>
-where
-    J: Naming + Drop + Send + Sync + 'static,
-    R: Threads + Wait + Copy + Send + 'static,
-{
-    let mut clients = Vec::new(alloc);
-    let all = add_clients(alloc, &mut clients, sessions);
-    let agrees = match case {
-        _ if !all => Err(Refusal::NoMemory),
-        Case::Table(table) => play_table(rt, alloc, engine, &mut clients, stage, table),
-        Case::Many(many) => play_many(rt, alloc, engine, &mut clients, stage, many),
-    };
-    parted(alloc, clients, agrees)
-}
-
-// A client of each session. Whether there is memory for all.
-fn add_clients<J: Naming + Drop>(
-    alloc: Global,
-    clients: &mut Vec<Client<J>>,
-    sessions: Vec<Session<J, Door>>,
-) -> bool {
-    let mut all = true;
-    let mut number = 0u64;
-    for session in sessions {
-        if clients
-            .push(Client::new(alloc, number, Seat::new(session)))
-            .is_err()
-        {
-            all = false;
-        }
-        number = number.saturating_add(1);
-    }
-    all
-}
-
-// The clients' sessions and notes.
-fn parted<J: Naming + Drop>(alloc: Global, clients: Vec<Client<J>>, agrees: Verdict) -> Played<J> {
-    let mut played = Played {
-        sessions: Vec::new(alloc),
-        parts: Vec::new(alloc),
-        agrees,
-    };
-    for client in clients {
-        if played.take(client).is_err() {
-            played.agrees = both(played.agrees, Err(Refusal::NoMemory));
-        }
-    }
-    played
 }

@@ -1,15 +1,13 @@
 //! Clients on threads, and what is done beside them.
-use engine_workers::{Engine, Naming};
+use engine_workers::{Calls, Commands};
 use record_key::Refusal;
 use std::alloc::{AllocError, Global};
 use std::sync::{Arc, Wait};
 use std::thread;
 use std::thread::{JoinHandle, Threads};
-use test_engine_cases::{Seat, follow_all, trouble};
-use test_pool_cases::{Door, Many, Plan, Serves, Stage, Table, Verdict, both, follow, play};
-
-/// A client of an engine.
-pub type Client<J> = test_pool_cases::Client<Seat<J>>;
+use test_pool_cases::{
+    Client, Many, Plan, Stage, Table, Verdict, both, follow, follow_all, play, trouble,
+};
 
 /// What a client does on its thread.
 #[derive(Drop)]
@@ -20,34 +18,34 @@ enum Task {
 
 /// A client whose thread is over, and whether all was as it is to be.
 #[derive(Drop)]
-pub struct Ended<J: Naming> {
-    client: Client<J>,
+pub struct Ended<S> {
+    client: Client<S>,
     agrees: Verdict,
 }
 
 // A client's thread. Refused where none can be made; the client is gone then.
-fn start<J, R>(
+fn start<S, R>(
     rt: R,
     alloc: Global,
-    client: Client<J>,
+    client: Client<S>,
     stage: Arc<Stage>,
     task: Task,
-) -> Result<JoinHandle<Ended<J>>, AllocError>
+) -> Result<JoinHandle<Ended<S>>, AllocError>
 where
-    J: Naming + Drop + Send + Sync + 'static,
+    S: Calls + Drop + Send + 'static,
     R: Threads + Wait + Copy + Send + 'static,
 {
     Ok(thread::spawn(&rt, move || follow_task(&rt, alloc, client, &*stage, task))?)
 }
 
 // From a client's first call to its last.
-fn follow_task<J: Naming + Drop, R: Wait>(
+fn follow_task<S: Calls + Drop, R: Wait>(
     rt: &R,
     alloc: Global,
-    client: Client<J>,
+    client: Client<S>,
     stage: &Stage,
     task: Task,
-) -> Ended<J> {
+) -> Ended<S> {
     let mut client = client;
     let agrees = perform(rt, alloc, &mut client, stage, &task);
     stage.count_over();
@@ -55,10 +53,10 @@ fn follow_task<J: Naming + Drop, R: Wait>(
 }
 
 // Whether all was as it is to be.
-fn perform<S: Serves + Drop, R: Wait>(
+fn perform<S: Calls + Drop, R: Wait>(
     rt: &R,
     alloc: Global,
-    client: &mut test_pool_cases::Client<S>,
+    client: &mut Client<S>,
     stage: &Stage,
     task: &Task,
 ) -> Verdict {
@@ -72,16 +70,17 @@ fn perform<S: Serves + Drop, R: Wait>(
 }
 
 /// Does what a table says. Whether all is answered so.
-pub fn play_table<J, R>(
+pub fn play_table<E, S, R>(
     rt: R,
     alloc: Global,
-    engine: &mut Engine<J, Door>,
-    clients: &mut Vec<Client<J>>,
+    engine: &mut E,
+    clients: &mut Vec<Client<S>>,
     stage: &Arc<Stage>,
     table: &Table<'_>,
 ) -> Verdict
 where
-    J: Naming + Drop + Send + Sync + 'static,
+    E: Commands,
+    S: Calls + Drop + Send + 'static,
     R: Threads + Wait + Copy + Send + 'static,
 {
     if !table.there.is_empty() && !play_beside(rt, alloc, engine, clients, stage, table)? {
@@ -91,16 +90,17 @@ where
 }
 
 // The last client makes its calls on a thread, and what is to be done beside it is done while its message is held.
-fn play_beside<J, R>(
+fn play_beside<E, S, R>(
     rt: R,
     alloc: Global,
-    engine: &mut Engine<J, Door>,
-    clients: &mut Vec<Client<J>>,
+    engine: &mut E,
+    clients: &mut Vec<Client<S>>,
     stage: &Arc<Stage>,
     table: &Table<'_>,
 ) -> Verdict
 where
-    J: Naming + Drop + Send + Sync + 'static,
+    E: Commands,
+    S: Calls + Drop + Send + 'static,
     R: Threads + Wait + Copy + Send + 'static,
 {
     let task = Task::Lines(String::from_str(alloc, table.there)?);
@@ -123,10 +123,10 @@ where
 }
 
 // Waits for a client's thread. Whether all was as it is to be.
-fn join<J: Naming + Drop, R: Threads>(
+fn join<S: Calls + Drop, R: Threads>(
     rt: &R,
-    thread: JoinHandle<Ended<J>>,
-    clients: &mut Vec<Client<J>>,
+    thread: JoinHandle<Ended<S>>,
+    clients: &mut Vec<Client<S>>,
 ) -> Verdict {
     let Ended { client, agrees } = thread.join(rt);
     clients.push(client)?;
@@ -135,16 +135,17 @@ fn join<J: Naming + Drop, R: Threads>(
 
 /// Each client follows the plan on a thread of its own, beside its trouble. Whether the components were brought up after
 /// each crash.
-pub fn play_many<J, R>(
+pub fn play_many<E, S, R>(
     rt: R,
     alloc: Global,
-    engine: &mut Engine<J, Door>,
-    clients: &mut Vec<Client<J>>,
+    engine: &mut E,
+    clients: &mut Vec<Client<S>>,
     stage: &Arc<Stage>,
     many: &Many,
 ) -> Verdict
 where
-    J: Naming + Drop + Send + Sync + 'static,
+    E: Commands,
+    S: Calls + Drop + Send + 'static,
     R: Threads + Wait + Copy + Send + 'static,
 {
     let mut threads = Vec::with_capacity(alloc, clients.len())?;
@@ -156,16 +157,16 @@ where
     both(up, join_all(&rt, threads, clients))
 }
 
-fn start_all<J, R>(
+fn start_all<S, R>(
     rt: R,
     alloc: Global,
-    clients: &mut Vec<Client<J>>,
+    clients: &mut Vec<Client<S>>,
     stage: &Arc<Stage>,
     plan: Plan,
-    threads: &mut Vec<JoinHandle<Ended<J>>>,
+    threads: &mut Vec<JoinHandle<Ended<S>>>,
 ) -> Result<(), Refusal>
 where
-    J: Naming + Drop + Send + Sync + 'static,
+    S: Calls + Drop + Send + 'static,
     R: Threads + Wait + Copy + Send + 'static,
 {
     for _ in 0..clients.len() {
@@ -177,10 +178,10 @@ where
     Ok(())
 }
 
-fn join_all<J: Naming + Drop, R: Threads>(
+fn join_all<S: Calls + Drop, R: Threads>(
     rt: &R,
-    threads: Vec<JoinHandle<Ended<J>>>,
-    clients: &mut Vec<Client<J>>,
+    threads: Vec<JoinHandle<Ended<S>>>,
+    clients: &mut Vec<Client<S>>,
 ) -> Verdict {
     let mut agree = Ok(true);
     for thread in threads {

@@ -1,9 +1,8 @@
 //! A client: its session, and what it notes of its own calls.
 use crate::call::Call;
-use crate::served::Serves;
 use crate::verdict::{TRIES, Verdict};
 use codec::Rows;
-use engine_answers::Told;
+use engine_answers::{Calls, Told};
 use record_key::{Answer, Key, Op, Refusal, Value};
 use std::alloc::Global;
 use std::sync::Wait;
@@ -25,7 +24,7 @@ pub struct Client<S> {
     notes: Vec<Note>,
 }
 
-impl<S: Serves + Drop> Client<S> {
+impl<S: Calls + Drop> Client<S> {
     /// A client that has made no call.
     pub fn new(alloc: Global, number: u64, session: S) -> Client<S> {
         Client {

@@ -1,8 +1,8 @@
 //! What an engine leaves, judged.
+use crate::left::Leaves;
 use crate::parts::Part;
 use crate::plan::{FALLS, Many, Trouble};
 use crate::playing::{OWN, own_key};
-use crate::served::Leaves;
 use crate::told::put_rows;
 use crate::verdict::Verdict;
 use crate::{machine, parts};

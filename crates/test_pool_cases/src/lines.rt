@@ -1,9 +1,9 @@
 //! Calls of a client that are lines of text, each with its answer.
 use crate::call::Call;
 use crate::client::Client;
-use crate::served::Serves;
 use crate::told::put_told;
 use crate::verdict::Verdict;
+use engine_answers::Calls;
 use record_key::Refusal;
 use std::alloc::{AllocError, Global};
 use std::fmt::Write;
@@ -39,7 +39,7 @@ pub fn parted(line: &str) -> (&str, &str) {
 }
 
 /// Makes the calls of one client, up to the first line whose answer differs. Whether none does.
-pub fn follow<S: Serves + Drop, R: Wait>(
+pub fn follow<S: Calls + Drop, R: Wait>(
     rt: &R,
     alloc: Global,
     client: &mut Client<S>,
@@ -55,7 +55,7 @@ pub fn follow<S: Serves + Drop, R: Wait>(
 }
 
 // Whether a client's call is answered as the line says.
-fn answers<S: Serves + Drop, R: Wait>(
+fn answers<S: Calls + Drop, R: Wait>(
     rt: &R,
     alloc: Global,
     client: &mut Client<S>,
@@ -69,7 +69,7 @@ fn answers<S: Serves + Drop, R: Wait>(
 }
 
 /// Makes a call, and appends what it is answered.
-pub fn put_answer<S: Serves + Drop, R: Wait>(
+pub fn put_answer<S: Calls + Drop, R: Wait>(
     rt: &R,
     client: &mut Client<S>,
     words: Words<'_>,
@@ -88,7 +88,7 @@ pub fn put_answer<S: Serves + Drop, R: Wait>(
 }
 
 // Carries the client's unfinished call on, and appends what that is answered.
-fn put_again<S: Serves + Drop, R: Wait>(
+fn put_again<S: Calls + Drop, R: Wait>(
     rt: &R,
     client: &mut Client<S>,
     text: &mut String,
@@ -99,7 +99,7 @@ fn put_again<S: Serves + Drop, R: Wait>(
     }
 }
 
-fn put_marks<S: Serves + Drop>(client: &mut Client<S>, text: &mut String) -> Result<(), Refusal> {
+fn put_marks<S: Calls + Drop>(client: &mut Client<S>, text: &mut String) -> Result<(), Refusal> {
     let (stable, low) = client.marks();
     write!(text, "{stable} {low}")?;
     Ok(())

@@ -3,7 +3,7 @@
 //! The model has one list of operations, with those crossed out that were rolled back, and reads and answers by a plain
 //! table of the others. Of a restart the history tells how many records the log had then, and who is lost.
 use crate::client::is_failure;
-use crate::served::Leaves;
+use crate::left::Leaves;
 use crate::verdict::Verdict;
 use engine_answers::engine_history::Step;
 use record_key::{Op, Refusal};

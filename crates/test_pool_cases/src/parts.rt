@@ -1,6 +1,6 @@
 //! What each client noted, beside its session's calls in the history.
 use crate::client::{Note, is_failure, txn_of};
-use crate::served::Leaves;
+use crate::left::Leaves;
 use engine_answers::engine_history::{Lent, Step};
 use record_key::Refusal;
 use test_model::node_laws::{Event, Out};

@@ -3,8 +3,8 @@ use crate::call::Call;
 use crate::client::Client;
 use crate::draws::Draws;
 use crate::plan::Plan;
-use crate::served::Serves;
 use crate::stage::Stage;
+use engine_answers::Calls;
 use record_key::{Key, Op, Refusal, Value};
 use std::sync::Wait;
 use test_model::node_laws::Out;
@@ -40,7 +40,7 @@ fn hearing(out: Option<&Out>) -> Heard {
 }
 
 /// Plays all transactions of the plan, and at last one that writes the client's own record and commits.
-pub fn play<S: Serves + Drop, R: Wait>(
+pub fn play<S: Calls + Drop, R: Wait>(
     rt: &R,
     client: &mut Client<S>,
     stage: &Stage,
@@ -53,7 +53,7 @@ pub fn play<S: Serves + Drop, R: Wait>(
 }
 
 // Tries a transaction until nobody bars it, so many times.
-fn try_txn<S: Serves + Drop, R: Wait>(
+fn try_txn<S: Calls + Drop, R: Wait>(
     rt: &R,
     client: &mut Client<S>,
     stage: &Stage,
@@ -70,7 +70,7 @@ fn try_txn<S: Serves + Drop, R: Wait>(
 }
 
 // A transaction of drawn calls. Where another bars it, it is rolled back.
-fn play_txn<S: Serves + Drop, R: Wait>(
+fn play_txn<S: Calls + Drop, R: Wait>(
     rt: &R,
     client: &mut Client<S>,
     stage: &Stage,
@@ -94,7 +94,7 @@ fn play_txn<S: Serves + Drop, R: Wait>(
 
 // What became of a call that is carried on for as long as it is unfinished. One that failed at its entry is to be made
 // again, as where a component was down.
-fn carry_on<S: Serves + Drop, R: Wait>(rt: &R, client: &mut Client<S>) -> Heard {
+fn carry_on<S: Calls + Drop, R: Wait>(rt: &R, client: &mut Client<S>) -> Heard {
     let mut heard = hearing(client.heard());
     for _ in 0..MOST {
         if heard != Heard::Failed {
@@ -109,7 +109,7 @@ fn carry_on<S: Serves + Drop, R: Wait>(rt: &R, client: &mut Client<S>) -> Heard 
 }
 
 // Makes a call, and again where the components were down.
-fn insist<S: Serves + Drop, R: Wait>(
+fn insist<S: Calls + Drop, R: Wait>(
     rt: &R,
     client: &mut Client<S>,
     stage: &Stage,
@@ -133,7 +133,7 @@ pub fn own_key(client: u64) -> Result<Key, Refusal> {
 }
 
 // Writes the client's own record, until that is committed.
-fn write_own<S: Serves + Drop, R: Wait>(
+fn write_own<S: Calls + Drop, R: Wait>(
     rt: &R,
     client: &mut Client<S>,
     stage: &Stage,
@@ -148,7 +148,7 @@ fn write_own<S: Serves + Drop, R: Wait>(
     Ok(())
 }
 
-fn play_own<S: Serves + Drop, R: Wait>(
+fn play_own<S: Calls + Drop, R: Wait>(
     rt: &R,
     client: &mut Client<S>,
     stage: &Stage,

@@ -1,17 +1,18 @@
 //! What the main thread does to the engine beside its clients: crashes, and failures of the log's device.
-use engine_workers::{Engine, Naming};
+use crate::plan::{CRASHES, Crash, FAILS, FAILURES, Many, Trouble, crash_at};
+use crate::stage::Stage;
+use crate::verdict::{TRIES, Verdict, both};
+use engine_answers::Commands;
 use record_key::Refusal;
 use std::sync::Wait;
-use test_pool_cases::{
-    CRASHES, Crash, Door, FAILS, FAILURES, Many, Stage, TRIES, Trouble, Verdict, both, crash_at,
-};
 
 /// Makes the trouble of a case. Whether each restart was done.
-pub fn trouble<J, R>(rt: &R, engine: &mut Engine<J, Door>, stage: &Stage, many: &Many) -> Verdict
-where
-    J: Naming + Drop + Send + Sync + 'static,
-    R: Wait,
-{
+pub fn trouble<E: Commands, R: Wait>(
+    rt: &R,
+    engine: &mut E,
+    stage: &Stage,
+    many: &Many,
+) -> Verdict {
     let clients = many.sessions as u64;
     match many.plan.trouble {
         Trouble::Nothing => Ok(true),
@@ -24,11 +25,7 @@ where
 }
 
 // Lets the log's device fail its next call, the second or the third, each time after so many calls more.
-fn fail_all<J, R>(rt: &R, engine: &mut Engine<J, Door>, stage: &Stage, clients: u64, step: u64)
-where
-    J: Naming + Drop + Send + Sync + 'static,
-    R: Wait,
-{
+fn fail_all<E: Commands, R: Wait>(rt: &R, engine: &mut E, stage: &Stage, clients: u64, step: u64) {
     let mut calls = 0u64;
     for place in 0..FAILURES {
         calls = calls.saturating_add(step);
@@ -39,17 +36,13 @@ where
 
 // Makes each crash after so many calls more, restarts what is down, and lets a device fail some calls later. Whether each
 // restart was done.
-fn crash_all<J, R>(
+fn crash_all<E: Commands, R: Wait>(
     rt: &R,
-    engine: &mut Engine<J, Door>,
+    engine: &mut E,
     stage: &Stage,
     clients: u64,
     step: u64,
-) -> Verdict
-where
-    J: Naming + Drop + Send + Sync + 'static,
-    R: Wait,
-{
+) -> Verdict {
     let mut up = Ok(true);
     let mut calls = 0u64;
     for place in 0..CRASHES {
@@ -62,11 +55,7 @@ where
 
 /// Brings the components up, and answers how often that was refused memory. Where it always is the transaction component
 /// crashes, so that no call waits for them.
-pub fn bring_up<J, R>(rt: &R, engine: &mut Engine<J, Door>) -> Result<u64, Refusal>
-where
-    J: Naming + Drop + Send + Sync + 'static,
-    R: Wait,
-{
+pub fn bring_up<E: Commands, R: Wait>(rt: &R, engine: &mut E) -> Result<u64, Refusal> {
     for refused in 0..TRIES {
         match engine.restart(rt) {
             Err(Refusal::NoMemory) => {}
@@ -79,11 +68,7 @@ where
 }
 
 // Clients wait from before a crash until all is up again, if they are refused.
-fn fall<J, R>(rt: &R, engine: &mut Engine<J, Door>, stage: &Stage, crash: Crash) -> Verdict
-where
-    J: Naming + Drop + Send + Sync + 'static,
-    R: Wait,
-{
+fn fall<E: Commands, R: Wait>(rt: &R, engine: &mut E, stage: &Stage, crash: Crash) -> Verdict {
     stage.set_down(true);
     match crash {
         Crash::Data => engine.crash_dc(rt),

@@ -1,24 +1,26 @@
 //! Lines of text that say what is done to an engine or by one of its clients, each with its answer.
+use crate::client::Client;
 use crate::crashes::bring_up;
-use engine_workers::{Engine, Naming};
+use crate::lines::{parted, put_answer, room};
+use crate::verdict::Verdict;
+use engine_answers::{Calls, Commands};
 use record_key::Refusal;
 use std::alloc::Global;
 use std::sync::Wait;
 use test_lines::{Words, put_refusal};
-use test_pool_cases::{Client, Door, Serves, Verdict, parted, put_answer, room};
 
 /// Does what each line says, of a client by its number or of the engine, up to the first whose answer differs. Whether
 /// none does.
-pub fn follow_all<J, S, R>(
+pub fn follow_all<E, S, R>(
     rt: &R,
     alloc: Global,
-    engine: &mut Engine<J, Door>,
+    engine: &mut E,
     clients: &mut Vec<Client<S>>,
     lines: &str,
 ) -> Verdict
 where
-    J: Naming + Drop + Send + Sync + 'static,
-    S: Serves + Drop,
+    E: Commands,
+    S: Calls + Drop,
     R: Wait,
 {
     let mut text = room(alloc)?;
@@ -31,17 +33,17 @@ where
 }
 
 // Whether what the line says is answered so.
-fn happens<J, S, R>(
+fn happens<E, S, R>(
     rt: &R,
     alloc: Global,
-    engine: &mut Engine<J, Door>,
+    engine: &mut E,
     clients: &mut Vec<Client<S>>,
     line: &str,
     text: &mut String,
 ) -> Verdict
 where
-    J: Naming + Drop + Send + Sync + 'static,
-    S: Serves + Drop,
+    E: Commands,
+    S: Calls + Drop,
     R: Wait,
 {
     let (call, wanted) = parted(line);
@@ -57,7 +59,7 @@ where
 }
 
 // Whether the client of this number, who isn't on a thread, is answered so.
-fn answers<S: Serves + Drop, R: Wait>(
+fn answers<S: Calls + Drop, R: Wait>(
     rt: &R,
     clients: &mut Vec<Client<S>>,
     number: &str,
@@ -75,7 +77,7 @@ fn answers<S: Serves + Drop, R: Wait>(
 }
 
 // Where the client of this number stands, if it isn't on a thread.
-fn place_of<S: Serves + Drop>(clients: &Vec<Client<S>>, number: &str) -> Option<usize> {
+fn place_of<S: Calls + Drop>(clients: &Vec<Client<S>>, number: &str) -> Option<usize> {
     let number = number.parse::<u64>().ok()?;
     for (place, client) in clients.iter().enumerate() {
         if client.number() == number {
@@ -86,11 +88,11 @@ fn place_of<S: Serves + Drop>(clients: &Vec<Client<S>>, number: &str) -> Option<
 }
 
 // One component crashes.
-fn crash<J, R>(rt: &R, engine: &mut Engine<J, Door>, words: &mut Words<'_>) -> Result<(), Refusal>
-where
-    J: Naming + Drop + Send + Sync + 'static,
-    R: Wait,
-{
+fn crash<E: Commands, R: Wait>(
+    rt: &R,
+    engine: &mut E,
+    words: &mut Words<'_>,
+) -> Result<(), Refusal> {
     if words.word() == "dc" {
         engine.crash_dc(rt);
     } else {
@@ -100,22 +102,22 @@ where
 }
 
 // A call of the log's device is to fail.
-fn fail<J, R>(rt: &R, engine: &mut Engine<J, Door>, words: &mut Words<'_>) -> Result<(), Refusal>
-where
-    J: Naming + Drop + Send + Sync + 'static,
-    R: Wait,
-{
+fn fail<E: Commands, R: Wait>(
+    rt: &R,
+    engine: &mut E,
+    words: &mut Words<'_>,
+) -> Result<(), Refusal> {
     engine.fail_tc(rt, words.number()?);
     Ok(())
 }
 
 // Brings the components up, and appends whether they are. Refused NoMemory where that was: records have other numbers
 // than the lines say once it is tried again.
-fn put_restart<J, R>(rt: &R, engine: &mut Engine<J, Door>, text: &mut String) -> Result<(), Refusal>
-where
-    J: Naming + Drop + Send + Sync + 'static,
-    R: Wait,
-{
+fn put_restart<E: Commands, R: Wait>(
+    rt: &R,
+    engine: &mut E,
+    text: &mut String,
+) -> Result<(), Refusal> {
     match bring_up(rt, engine) {
         Ok(0) => Ok(text.push_str("up")?),
         Ok(_) | Err(Refusal::NoMemory) => Err(Refusal::NoMemory),
