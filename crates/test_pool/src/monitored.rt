@@ -1,4 +1,4 @@
-//! A case under one lock, from its engine's first call to its verdict. No journal is left there: judged is what each call of
+//! A case under one lock, from its engine's first call to its verdict. No list of steps is left there: judged is what each call of
 //! a table is answered, and the records.
 ghost use Rattle.engine_monitor.specs.Opened.{IsNamed};
 
