@@ -250,7 +250,7 @@ def main(shell, file, seed=1, count=6):
     folder = tempfile.mkdtemp()
     run = Recorded(shell, seed, folder, count, collections.Counter())
     run.start_dc()
-    lines = network.lines_of(run.rng, count)
+    lines = network.lines_of(run.rng, count, 0)
     kill_dc = run.rng.randrange(5, 15)
     kill_tc = kill_dc + (run.rng.randrange(2, 9) if run.rng.random() < 0.5 else run.rng.randrange(25, 50))
     if not run.segment(lines, kill_tc, kill_dc):
