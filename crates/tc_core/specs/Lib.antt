@@ -22,4 +22,4 @@ pub mod Undo
 pub mod Seen
 pub mod Heard
 -- what a crate above names of those below
-pub use Rattle.tc_restart as restart
+pub use Rattle.tc_restart as tc_restart
