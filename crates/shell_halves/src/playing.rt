@@ -8,6 +8,7 @@ use crate::received::Received;
 use crate::stop::Stop;
 use crate::wire::Wire;
 use codec::{Reply, put_request};
+use history::Record;
 use node_sides::TcSide;
 use node_sides::node_laws::{Event, Out};
 use node_sides::tc_core::Tc;
@@ -71,8 +72,10 @@ impl<D: CrashLog> Player<D> {
                 break;
             };
             let (line, rest) = cut_at(bytes, b'\n');
-            if let Some(line) = request(line) {
-                self.line(&line, wire)?;
+            if let Some(line) = request(line)
+                && let Err(stop) = self.line(&line, wire)
+            {
+                return told(wire, stop);
             }
             left = rest;
         }
@@ -89,6 +92,10 @@ impl<D: CrashLog> Player<D> {
             Line::Forget => self.forget(wire),
             Line::Step(Event::Request { number }) => self.deliver(*number, wire),
             Line::Step(Event::Reply { number }) => self.receive(*number, wire),
+            Line::Step(Event::LowWater { low }) => {
+                let low = self.told_low(*low);
+                self.call(line, &Event::LowWater { low }, wire)
+            }
             Line::Step(event) if event.is_of_tc() => self.call(line, event, wire),
             _ => match event_of(line, &self.labels) {
                 Ok(Some(event)) => self.call(line, &event, wire),
@@ -112,8 +119,30 @@ impl<D: CrashLog> Player<D> {
             self.labels.make_room(label)?;
         }
         let (out, _) = self.step(event, None)?;
+        if let Out::Refused(refusal @ (Refusal::NoMemory | Refusal::Device)) = out {
+            return Err(Stop::Refused(refusal));
+        }
         self.note(line, event, &out);
         Ok(print_out_so(wire.text, self.labels.looks(), &out)?)
+    }
+
+    /// The number that is told for a low one: the last up to it whose record is no session's. A session is begun with the
+    /// number of the log's last such record, and where a leaf has a greater low number it doesn't show that nothing above
+    /// that was performed.
+    fn told_low(&self, low: u64) -> u64 {
+        let Ok(tc) = self.side.running() else {
+            return low;
+        };
+        if tc.can_announce(low).is_err() {
+            return low;
+        }
+        for above in 0..low {
+            let number = low - above;
+            if !matches!(tc.record(number), Some(Record::Session)) {
+                return number;
+            }
+        }
+        0
     }
 
     /// A label stands for the transaction that it has begun, and rows are told as they were asked for.
@@ -146,4 +175,12 @@ impl<D: CrashLog> Player<D> {
             }
         }
     }
+}
+
+/// Says which refusal has ended a script, if one has.
+fn told<R: Read, W: Write, T: Write>(wire: &mut Wire<'_, R, W, T>, stop: Stop) -> Result<(), Stop> {
+    if let Stop::Refused(refusal) = stop {
+        print_refusal(wire.text, refusal)?;
+    }
+    Err(stop)
 }
