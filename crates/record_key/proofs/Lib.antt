@@ -8,5 +8,6 @@ pub mod Numbers
 pub mod WordOrder
 pub mod Kept
 pub mod Packing
+pub mod Copies
 pub mod Amounts
 pub mod Adds

@@ -8,4 +8,5 @@ pub mod Places
 pub mod Rows
 pub mod Entries
 pub mod Packed
+pub mod Compacting
 pub mod Lent

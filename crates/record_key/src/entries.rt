@@ -6,10 +6,11 @@ ghost use Rattle.record_key.specs.Lent.{answer_lent};
 ghost use Rattle.record_key.specs.Order.{is_below};
 ghost use Rattle.record_key.specs.Entries.{RiseAbove, IsPlaceOfNumber, top_in};
 
+use crate::compacting::{compact, copied, put_at};
 use crate::entry::Entry;
 use crate::key::Key;
 use crate::lent::AnswerRef;
-use crate::packed::{PACKED_LIMIT, answer_at, is_under, key_at, packed_len, put};
+use crate::packed::{is_under, packed_entry};
 use crate::refusal::Refusal;
 use crate::slot::Slot;
 use smallvec::SmallVec;
@@ -66,15 +67,7 @@ impl Entries {
         requires { at < length self.now }
         ensures { result ≡ get_or self.now at result }
     {
-        let slot = self.slots.as_slice()[at];
-        match key_at(&self.bytes, slot.place) {
-            Some(key) => Entry {
-                number: slot.number,
-                key,
-                answer: answer_at(&self.bytes, slot.place),
-            },
-            None => unreachable!(),
-        }
+        packed_entry(&self.bytes, self.slots.as_slice()[at])
     }
 
     /// The greatest number of rising ones, 0 where there are none. Takes no memory.
@@ -114,8 +107,8 @@ impl Entries {
         ensures unchanged { OnErr result (self.new ≡ self.old) }
         ensures refused { IfErr result (λ refusal. refusal ≡ Refusal.NoMemory) }
     {
-        self.compact()?;
-        self.put_at(at, number, key, answer)
+        compact(&mut self.slots, &mut self.bytes)?;
+        put_at(&mut self.slots, &mut self.bytes, at, number, key, answer)
     }
 
     /// Puts a copy of an entry behind the others. Refused NoMemory, and unchanged then.
@@ -124,7 +117,16 @@ impl Entries {
         ensures unchanged { OnErr result (self.new ≡ self.old) }
         ensures refused { IfErr result (λ refusal. refusal ≡ Refusal.NoMemory) }
     {
-        self.put_at(self.len(), entry.number, &entry.key, &entry.answer.lent())
+        let at = self.slots.len();
+        let answer = entry.answer.lent();
+        put_at(
+            &mut self.slots,
+            &mut self.bytes,
+            at,
+            entry.number,
+            &entry.key,
+            &answer,
+        )
     }
 
     /// Drops those whose numbers are at most this one. Takes no memory.
@@ -157,51 +159,8 @@ impl Entries {
         ensures copied { IfOk result (λ copied. copied ≡ self.now) }
         ensures refused { IfErr result (λ refusal. refusal ≡ Refusal.NoMemory) }
     {
-        let mut copied = Entries::new(self.allocator());
-        for at in 0..self.len() {
-            copied.push(&self.entry(at))?;
-        }
-        Ok(copied)
-    }
-
-    fn put_at(
-        &mut self,
-        at: usize,
-        number: u64,
-        key: &Key,
-        answer: &AnswerRef<'_>,
-    ) -> Result<(), Refusal>
-        requires { at ≤ length self.old }
-        ensures inserted { OnOk result (self.new ≡ insert self.old at
-            (record { number = number; key = key.now; answer = answer_lent answer.now })) }
-        ensures unchanged { OnErr result (self.new ≡ self.old) }
-        ensures refused { IfErr result (λ refusal. refusal ≡ Refusal.NoMemory) }
-    {
-        self.bytes.reserve(PACKED_LIMIT)?;
-        let place = self.bytes.len();
-        self.slots.insert(at, Slot { number, place })?;
-        put(&mut self.bytes, key, answer);
-        Ok(())
-    }
-
-    /// Where the buffer is full and at least half of it is left by entries that were dropped, takes another without
-    /// these. So the buffer doesn't grow with what went. Refused NoMemory, and unchanged then.
-    fn compact(&mut self) -> Result<(), Refusal>
-        ensures same { self.new ≡ self.old }
-        ensures refused { IfErr result (λ refusal. refusal ≡ Refusal.NoMemory) }
-    {
-        if self.bytes.capacity() - self.bytes.len() < PACKED_LIMIT && self.is_half_spare() {
-            *self = self.copied()?;
-        }
-        Ok(())
-    }
-
-    fn is_half_spare(&self) -> bool {
-        let mut used: usize = 0;
-        for slot in self.slots.as_slice() {
-            used = used.saturating_add(packed_len(&self.bytes, slot.place));
-        }
-        used <= self.bytes.len() / 2
+        let (slots, bytes) = copied(self.allocator(), self.slots.as_slice(), &self.bytes)?;
+        Ok(Entries { slots, bytes })
     }
 
     /// With the last entry its bytes go.

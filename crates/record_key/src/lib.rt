@@ -6,6 +6,7 @@
 //! 0 to 120 bytes; both lie inline, so none of them ever takes memory.
 #![tactic(auto)]
 
+mod compacting;
 mod entries;
 mod entry;
 mod key;

@@ -4,12 +4,15 @@ ghost use Rattle.std.specs.Prelude.{◌≡◌, ◌+◌, ◌≤◌, ◌++◌, len
 ghost use Rattle.std.specs.Vec.{vec_capacity};
 ghost use Rattle.record_key.specs.Order.{is_below};
 ghost use Rattle.record_key.specs.Amounts.{amount_bytes};
+ghost use Rattle.record_key.specs.Compacting.{packed_len};
 ghost use Rattle.record_key.specs.Lent.{answer_lent};
-ghost use Rattle.record_key.specs.Packed.{kind_of, value_told, amount_of, answer_from, packed, key_at, packed_answer, HasLengths, IsPacked};
+ghost use Rattle.record_key.specs.Packed.{kind_of, value_told, amount_of, answer_from, packed, key_at, packed_answer, entry_in, HasLengths, IsPacked};
 
+use crate::entry::Entry;
 use crate::key::Key;
 use crate::lent::AnswerRef;
 use crate::op::Answer;
+use crate::slot::Slot;
 use crate::value::Value;
 use byteorder::{BigEndian, ByteOrder};
 
@@ -116,8 +119,25 @@ pub(crate) fn is_under(bytes: &[u8], place: usize, key: &Key) -> bool
     }
 }
 
+/// The entry whose key and answer stand at its place.
+pub(crate) fn packed_entry(bytes: &[u8], slot: Slot) -> Entry
+    requires { IsPacked bytes.now slot.place }
+    ensures { result ≡ entry_in bytes.now slot }
+{
+    match key_at(bytes, slot.place) {
+        Some(key) => Entry {
+            number: slot.number,
+            key,
+            answer: answer_at(bytes, slot.place),
+        },
+        None => unreachable!(),
+    }
+}
+
 /// How many bytes the key and the answer at a place take, 0 where none stand.
-pub(crate) fn packed_len(bytes: &[u8], place: usize) -> usize {
+pub(crate) fn packed_len(bytes: &[u8], place: usize) -> usize
+    ensures { IsPacked bytes.now place → result ≡ packed_len bytes.now place }
+{
     let tail = tail_at(bytes, place);
     if tail.len() < HEAD_LEN {
         return 0;

@@ -92,30 +92,30 @@ module _ (old new : Slab OpenTxn) (opened : OpenTxn) (s : ℕ) (u : Updates old 
         ) refl;
       }
 
-module _ (old new : Slab OpenTxn) (t s : ℕ) (u : Updates old new s None) where
+module _ (old new : Slab OpenTxn) (t s : ℕ) (same : (k : ℕ) → k ≢ s → get new k ≡ get old k) where
   -- a number and what is in its slot are removed
   pub removed : (es : List (ℕ × ℕ)) (i : ℕ) → AreSlots old es → slice_get es i ≡ Some (t, s)
       → Holds new (remove es i) (without t (in_slots old es))
   removed [] i are place = absurd (cc)
   removed (e ∷ es) zero are place =
       let slot : e.1 ≡ s = cc in
-      let same : t ≡ e.0 = cc in
+      let number : t ≡ e.0 = cc in
       let apart : AllByRecursion (λ (d : ℕ × ℕ). d.1 ≢ s) es = rw (← slot) are.0.apart in
-      let others = kept old new (λ k. k ≢ s) u.others es apart are.1 in
+      let others = kept old new (λ k. k ≢ s) same es apart are.1 in
       record {
         are = others.are;
         view = rw (
           others.view,
           are.0.held,
           without_both t (in_slots old es) (are.0.open_txn ∷ []),
-          eq-eqb are.0.open_txn.txn t (are.0.number ∙ sym same),
-          all_without t (in_slots old es) (rw same (after_slot old e es are)),
+          eq-eqb are.0.open_txn.txn t (are.0.number ∙ sym number),
+          all_without t (in_slots old es) (rw number (after_slot old e es are)),
           append-nil,
         ) refl;
       }
   removed (e ∷ es) (suc i) are place =
-      let differs : e.1 ≢ s = λ same. all_at (λ (d : ℕ × ℕ). d.1 ≢ e.1) es i _ are.0.apart place (sym same) in
-      let now : get new e.1 ≡ Some are.0.open_txn = u.others e.1 differs ∙ are.0.held in
+      let differs : e.1 ≢ s = λ is. all_at (λ (d : ℕ × ℕ). d.1 ≢ e.1) es i _ are.0.apart place (sym is) in
+      let now : get new e.1 ≡ Some are.0.open_txn = same e.1 differs ∙ are.0.held in
       let rest = removed es i are.1 place in
       record {
         are = (

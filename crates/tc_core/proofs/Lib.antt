@@ -3,6 +3,7 @@ pub mod Finding
 pub mod Low
 pub mod Losers
 pub mod Slots
+pub mod SlabLen
 pub mod InSlots
 pub mod Adding
 pub mod Changing

@@ -3,9 +3,9 @@ use Rattle.std.proofs.Common.{◌≡◌, ℕ, List, [], ◌∷◌, length, refl,
 use Rattle.std.specs.List.{AllByRecursion}
 use Rattle.std.proofs.lemmas.List.{length-append}
 use Rattle.record_key.proofs.Lists.{all_appended}
-use Rattle.slab.specs.Slab.{Slab, get}
+use Rattle.slab.specs.Slab.{Slab, get, slab_len}
 use Rattle.tc_core.specs.declared.open_txn.OpenTxn.{OpenTxn}
-use Rattle.tc_core.specs.Slots.{listed, in_slots, AreSlots}
+use Rattle.tc_core.specs.Slots.{listed, in_slots, AreSlots, AreAllSlots}
 
 -- the slots, and the transactions in them
 pub record Holds (slab : Slab OpenTxn) (es : List (ℕ × ℕ)) (os : List OpenTxn) : Type 0 where
@@ -56,3 +56,10 @@ pub same_slots : (old new : Slab OpenTxn) (es : List (ℕ × ℕ)) → new ≡ r
     → AreSlots old es → Holds new es (in_slots old es)
 same_slots old new es same are =
     kept old new (λ _. Unit {0}) (λ k _. ap (λ (slab : Slab OpenTxn). get slab k) same) es (each_unit es) are
+
+pub wider : (old new : Slab OpenTxn) (es : List (ℕ × ℕ)) → new ≡ record old { capacity = new.capacity }
+    → AreAllSlots old es → AreAllSlots new es
+wider old new es same all = record {
+  each = (same_slots old new es same all.each).are;
+  as_many = ap (λ (slab : Slab OpenTxn). slab_len slab) same ∙ all.as_many;
+}

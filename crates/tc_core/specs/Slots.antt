@@ -1,7 +1,7 @@
 -- Open transactions in slots.
-use Rattle.std.specs.Prelude.{◌≡◌, ◌≢◌, ℕ, ◌<◌, List, [], ◌∷◌, ◌++◌, Option, Some, None}
+use Rattle.std.specs.Prelude.{◌≡◌, ◌≢◌, ℕ, ◌<◌, List, [], ◌∷◌, ◌++◌, length, Option, Some, None}
 use Rattle.std.specs.List.{AllByRecursion}
-use Rattle.slab.specs.Slab.{Slab, get}
+use Rattle.slab.specs.Slab.{Slab, get, slab_len}
 use Rattle.tc_core.specs.declared.open_txn.OpenTxn.{OpenTxn}
 
 abbrev pub listed : Option OpenTxn → List OpenTxn
@@ -24,3 +24,8 @@ pub record IsSlot (slab : Slab OpenTxn) (e : ℕ × ℕ) (after : List (ℕ × �
 abbrev pub AreSlots : Slab OpenTxn → List (ℕ × ℕ) → Type 0
 AreSlots slab [] = Unit {0}
 AreSlots slab (e ∷ es) = IsSlot slab e es × AreSlots slab es
+
+-- the slab has a value for each slot and no other, so that none is left behind
+pub record AreAllSlots (slab : Slab OpenTxn) (es : List (ℕ × ℕ)) : Type 0 where
+  pub each : AreSlots slab es
+  pub as_many : slab_len slab ≡ length es

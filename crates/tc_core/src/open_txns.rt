@@ -1,6 +1,7 @@
 //! The open transactions, each in a slot of its own, found by their numbers.
-ghost use Rattle.std.specs.Prelude.{◌≡◌, ◌≢◌, ◌<◌, ◌↔◌, [], ◌∷◌, length, slice_get, All, IsTrue, IsSome, IsSomeAnd, IfSome, IfNone, IfErr, OnOk, OnErr};
+ghost use Rattle.std.specs.Prelude.{◌≡◌, ◌≢◌, ◌<◌, ◌+◌, ℕ, ◌↔◌, [], ◌∷◌, length, slice_get, All, IsTrue, IsSome, IsSomeAnd, IfSome, IfNone, IfErr, OnOk, OnErr};
 ghost use Rattle.std.specs.Option.{option_copied};
+ghost use Rattle.slab.specs.Slab.{get, ContainsKey, slab_len};
 ghost use Rattle.tc_core.specs.Changed.{happens};
 ghost use Rattle.tc_core.specs.OpenTxns.{find, without, AreBelow, oldest, wants as is_wanted};
 
@@ -32,13 +33,13 @@ pub struct OpenTxns {
 impl Model for OpenTxns {
     ghost use Rattle.std.specs.Prelude.{List};
     ghost use Rattle.tc_core.specs.declared.open_txn.OpenTxn.{OpenTxn};
-    ghost use Rattle.tc_core.specs.Slots.{in_slots, AreSlots};
+    ghost use Rattle.tc_core.specs.Slots.{in_slots, AreAllSlots};
 
     ghost Value = { List OpenTxn };
 
     ghost view = { λ o. in_slots o.txns o.slots.items };
 
-    ghost invariant = { λ o. AreSlots o.txns o.slots.items };
+    ghost invariant = { λ o. AreAllSlots o.txns o.slots.items };
 }
 
 impl OpenTxns {
@@ -106,7 +107,7 @@ impl OpenTxns {
     {
         if let Some(place) = place_of(&self.slots, txn) {
             let (_, slot) = self.slots.remove(place);
-            self.txns.try_remove(slot);
+            vacate(&mut self.txns, slot);
         }
     }
 
@@ -123,6 +124,15 @@ impl OpenTxns {
         }
         None
     }
+}
+
+// Takes the transaction out of a slot. Takes no memory.
+fn vacate(txns: &mut Slab<OpenTxn>, slot: usize)
+    requires { ContainsKey txns.old slot }
+    ensures others { (k : ℕ) → k ≢ slot → get txns.new k ≡ get txns.old k }
+    ensures one_less { slab_len txns.new + 1 ≡ slab_len txns.old }
+{
+    txns.remove(slot);
 }
 
 // Where the slot of the transaction of this number stands. Looks from the newest down, since that is asked for most.

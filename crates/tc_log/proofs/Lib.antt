@@ -8,6 +8,7 @@ pub mod Following
 pub mod Framed
 pub mod Index
 pub mod Kept
+pub mod KeysKept
 pub mod NotSession
 pub mod Opening
 pub mod Puts

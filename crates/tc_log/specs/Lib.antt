@@ -10,5 +10,6 @@ pub mod Low
 pub mod NotSession
 pub mod Opening
 pub mod Replay
+pub mod KeysKept
 pub mod Spelled
 pub mod Undoing

@@ -1,5 +1,5 @@
 //! Which transactions added to a key.
-ghost use Rattle.std.specs.Prelude.{◌≡◌, ℕ, List, [], ◌∷◌, ◌++◌, filter, OnOk};
+ghost use Rattle.std.specs.Prelude.{◌≡◌, ◌+◌, ◌≤◌, ℕ, List, [], ◌∷◌, ◌++◌, filter, OnOk};
 ghost use Rattle.std.specs.BTreeMap as tree;
 ghost use Rattle.std.specs.Ordering.{nat_cmp};
 ghost use Rattle.tc_log.specs.Adders.{adders_in, stays, PutsAdders};
@@ -33,8 +33,10 @@ impl Adders {
         txn: u64,
         latest: &BTreeMap<u64, u64>,
     ) -> Result<(), AllocError>
-        ensures { OnOk result (PutsAdders (adders_in self.old) (adders_in self.new) key.now
+        ensures puts { OnOk result (PutsAdders (adders_in self.old) (adders_in self.new) key.now
             (filter (stays (λ (t : ℕ). tree.get nat_cmp latest.now t) txn) (adders_in self.old key.now) ++ txn ∷ [])) }
+        ensures one_more { OnOk result
+            (tree.btree_map_len self.new.by_key ≤ tree.btree_map_len self.old.by_key + 1) }
     {
         let mut adders = match self.by_key.remove(key) {
             Some(adders) => adders,
@@ -48,7 +50,8 @@ impl Adders {
 
     /// Another operation comes after the Adds on the key.
     pub(crate) fn clear(&mut self, key: &Key)
-        ensures { PutsAdders (adders_in self.old) (adders_in self.new) key.now [] }
+        ensures puts { PutsAdders (adders_in self.old) (adders_in self.new) key.now [] }
+        ensures no_more { tree.btree_map_len self.new.by_key ≤ tree.btree_map_len self.old.by_key }
     {
         self.by_key.remove(key);
     }

@@ -1,10 +1,12 @@
 //! Reading what a crash left on a device.
-ghost use Rattle.std.specs.Prelude.{◌≡◌, ◌⊎◌, ◌+◌, ◌<◌, ◌∷◌, ◌++◌, [], length, OnOk, OnErr, IfOk, IfErr};
+ghost use Rattle.std.specs.Prelude.{◌≡◌, ◌⊎◌, ◌+◌, ◌<◌, ◌≤◌, ◌∷◌, ◌++◌, [], length, OnOk, OnErr, IfOk, IfErr};
+ghost use Rattle.std.specs.BTreeMap.{btree_map_len};
 ghost use Rattle.history.specs.Legal.{Fits};
 ghost use Rattle.codec.specs.Frames.{frame, IsCut};
 ghost use Rattle.codec.specs.Records.{record_bytes};
 ghost use Rattle.stable.specs.Usage.{called};
 ghost use Rattle.tc_log.specs.Opening.{BeginsAs, IsLogOf, RefusesBytes, RefusesOpen, FailsDue, UsedToRead};
+ghost use Rattle.tc_log.specs.KeysKept.{keys_kept, KeepsNoneOver};
 ghost use Rattle.tc_log.specs.Replay.{IsIndex};
 ghost use Rattle.tc_log.specs.Spelled.{spelled, StandsNext};
 
@@ -97,6 +99,7 @@ fn replay<D: LogDevice, J: Judge>(
     ensures begins { OnOk result (BeginsAs frames.old.left frames.new.records frames.new.left) }
     ensures cut { OnOk result (IsCut 181 frames.new.left) }
     ensures indexed { IfOk result (IsIndex frames.new.records) }
+    ensures forgotten { IfOk result (KeepsNoneOver frames.new.records) }
     ensures refused { IfErr result (RefusesBytes frames.old.left) }
     ensures device { frames.new.device ≡ frames.old.device }
 {
@@ -115,7 +118,8 @@ fn replay<D: LogDevice, J: Judge>(
     }
 }
 
-/// Takes in the record that stands next, if it fits.
+/// Takes in the record that stands next, if it fits. What transactions did that are over is forgotten first, where none
+/// is open.
 fn step<D: LogDevice>(
     frames: &mut Frames<D>,
     index: &mut Index,
@@ -132,11 +136,35 @@ fn step<D: LogDevice>(
     ensures refused { IfErr result (λ given. (given ≡ Refusal.NoMemory)
         ⊎ ((given ≡ Refusal.BadBytes (length (spelled frames.old.records)))
         × ((Fits frames.old.records found.now → ⊥) ⊎ (length frames.old.records + 1 ≡ 281474976710656)))) }
+    ensures forgotten { btree_map_len index.old.analysis.open_txns ≡ 0 → OnOk result (keys_kept index.new ≤ 1) }
+    ensures one_more { OnOk result (keys_kept index.new ≤ keys_kept index.old + 1) }
+{
+    index.forget();
+    take_in(frames, index, found, next)
+}
+
+/// The same, where nothing is forgotten.
+fn take_in<D: LogDevice>(
+    frames: &mut Frames<D>,
+    index: &mut Index,
+    found: &Record,
+    next: usize,
+) -> Result<(), Refusal>
+    requires stands { StandsNext frames.old.records frames.old.left found.now next }
+    requires index { IsIndex frames.old.records index.old }
+    ensures records { OnOk result (frames.new.records ≡ found.now ∷ frames.old.records) }
+    ensures left { OnOk result (frames.old.left ≡ frame (record_bytes found.now) ++ frames.new.left) }
+    ensures device { frames.new.device ≡ frames.old.device }
+    ensures room { OnOk result (length frames.old.records < 281474976710655) }
+    ensures index { OnOk result (IsIndex frames.new.records index.new) }
+    ensures refused { IfErr result (λ given. (given ≡ Refusal.NoMemory)
+        ⊎ ((given ≡ Refusal.BadBytes (length (spelled frames.old.records)))
+        × ((Fits frames.old.records found.now → ⊥) ⊎ (length frames.old.records + 1 ≡ 281474976710656)))) }
+    ensures one_more { OnOk result (keys_kept index.new ≤ keys_kept index.old + 1) }
 {
     if frames.len() >= LAST_NUMBER {
         return Err(Refusal::BadBytes(frames.end() as u64));
     }
-    index.forget();
     if !fits(index, frames, found) {
         return Err(Refusal::BadBytes(frames.end() as u64));
     }

@@ -1,5 +1,5 @@
 //! An index by transaction and by key, which tells in one pass whether each record fits those before it.
-ghost use Rattle.std.specs.Prelude.{◌≡◌, ◌↔◌, ◌∷◌, ◌++◌, [], IsTrue, OnOk, Some, None, List, ℕ, filter, if◌then◌else◌};
+ghost use Rattle.std.specs.Prelude.{◌≡◌, ◌≤◌, ◌+◌, ◌↔◌, ◌∷◌, ◌++◌, [], IsTrue, OnOk, Some, None, List, ℕ, filter, if◌then◌else◌};
 ghost use Rattle.std.specs.BTreeMap.{btree_map_len};
 ghost use Rattle.std.specs.Bool.{MatchBool};
 ghost use Rattle.std.specs.List.{list_all};
@@ -8,6 +8,7 @@ ghost use Rattle.history.specs.Legal.{IsKeyFree};
 ghost use Rattle.tc_log.specs.NotSession.{last_with as with_this};
 ghost use Rattle.tc_log.specs.Replay.{IsIndex, IsAnalysis, TakesIn, ReadyOf, latest_in, holder_in, adders_of, agrees, agrees_if, Holds, Gains, Puts};
 ghost use Rattle.tc_log.specs.Adders.{stays, PutsAdders};
+ghost use Rattle.tc_log.specs.KeysKept.{keys_kept};
 
 use crate::adders::Adders;
 use crate::analysis::Analysis;
@@ -109,8 +110,8 @@ impl Index {
     /// open transactions did.
     pub(crate) fn forget(&mut self)
         ensures index { (log : List Record) → IsIndex log self.old → IsIndex log self.new }
-        ensures forgotten { btree_map_len self.old.analysis.open_txns ≡ 0
-            → (btree_map_len self.new.holders ≡ 0) × (btree_map_len self.new.adders.by_key ≡ 0) }
+        ensures forgotten { btree_map_len self.old.analysis.open_txns ≡ 0 → keys_kept self.new ≡ 0 }
+        ensures no_more { keys_kept self.new ≤ keys_kept self.old }
     {
         if self.analysis.open_txns.is_empty() {
             self.holders.clear();
@@ -127,6 +128,7 @@ impl Index {
         ensures answered { self.new.answered ≡ self.old.answered }
         ensures last { OnOk result (self.new.last_not_session
             ≡ with_this accepted.now number self.old.last_not_session) }
+        ensures one_more { OnOk result (keys_kept self.new ≤ keys_kept self.old + 1) }
     {
         self.analysis.follow(accepted, number)?;
         self.last_not_session = last_with(accepted, number, self.last_not_session);
@@ -148,6 +150,7 @@ impl Index {
         ensures analysis { self.new.analysis ≡ self.old.analysis }
         ensures answered { self.new.answered ≡ self.old.answered }
         ensures last { self.new.last_not_session ≡ self.old.last_not_session }
+        ensures one_more { OnOk result (keys_kept self.new ≤ keys_kept self.old + 1) }
     {
         if op.is_add() {
             self.adders.add(op.key(), txn, &self.analysis.open_txns)

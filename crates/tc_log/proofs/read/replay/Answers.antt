@@ -7,21 +7,25 @@ use Rattle.codec.specs.declared.frame.FrameEnd.TheVariants as ends
 use Rattle.history.specs.declared.record.Record.{Record}
 use Rattle.history.specs.Legal.{IsLegal}
 use Rattle.tc_log.specs.Opening.{BeginsAs}
+use Rattle.tc_log.specs.KeysKept.{KeepsNoneOver}
 use Rattle.tc_log.specs.Replay.{IsIndex}
 use Rattle.tc_log.specs.Spelled.{StandsNext}
+use Rattle.tc_log.proofs.KeysKept.{of_nothing, with_one}
 use Rattle.tc_log.proofs.Opening.{begins_nothing, begins_more, index_nothing, shorter, refused_next}
 use Rattle.tc_log.proofs.read.replay.Goals as goal
 
 pub loop-next-init : goal.loop-next-init
 loop-next-init g c =
     let left : List ℕ = c.args.frames.now.left in
-    let Starts : List Record → Type 0 = λ log. BeginsAs left log left × IsIndex log c.new-index.result in
+    let Starts : List Record → Type 0 = λ log. BeginsAs left log left × IsIndex log c.new-index.result
+    × KeepsNoneOver log c.new-index.result in
     let starts = subst Starts (sym c.requires.unread) (
       begins_nothing left,
       index_nothing c.new-index.result c.new-index.ensures.analysis
           c.new-index.ensures.holders c.new-index.ensures.adders c.new-index.ensures.answered c.new-index.ensures.last,
+      of_nothing c.new-index.result,
     ) in
-    (starts.0, starts.1, refl, c.requires.unjudged ∙ sym c.requires.unread)
+    (starts.0, starts.1, refl, c.requires.unjudged ∙ sym c.requires.unread, starts.2)
 
 -- what was read stands next
 is_next : (end : FrameEnd) (place : ℕ) (log : List Record) (left : List ℕ) (r : Record) (next : ℕ) → end ≡ ends.At next
@@ -50,6 +54,9 @@ loop-next-preserved g c =
       c.in_ok-step-in-At.ensures.index,
       c.step.ensures.device ∙ c.loop-next.invariant.2,
       c.in_ok-look-in-At.ensures.shown ∙ ap (λ (l : List Record). c.next.new.found ∷ l) c.loop-next.invariant.3 ∙ sym grown,
+      with_one c.loop-next.frames.records log' c.next.new.found c.loop-next.index c.step.new.index grown
+          c.loop-next.invariant.1 c.in_ok-step-in-At.ensures.forgotten c.in_ok-step-in-At.ensures.one_more
+          c.loop-next.invariant.4,
     )
 
 pub returns-in_err-step-in-At-clause-refused : goal.returns-in_err-step-in-At-clause-refused

@@ -6,4 +6,4 @@ use Rattle.tc_core.proofs.open_txns.OpenTxns.len.Goals as goal
 pub returns : goal.returns
 returns c =
     let old = c.self.inside in
-    grind (arith, common_steps, as_many old.txns old.slots.items c.self.invariant, ap length c.self.view_is, c.len.ensures)
+    grind (arith, common_steps, as_many old.txns old.slots.items c.self.invariant.each, ap length c.self.view_is, c.len.ensures)

@@ -9,8 +9,8 @@ use Rattle.tc_log.proofs.Puts.{puts_adders}
 use Rattle.tc_log.proofs.adders.Adders.add.Goals as goal
 use Rattle.tc_log.proofs.adders.Adders.add.Goals.{in-Some, in-None}
 
-pub returns : goal.returns
-returns c =
+pub returns-clause-puts : goal.returns-clause-puts
+returns-clause-puts c =
     let had : c.match-remove.adders.items ≡ adders_in c.args.self.now c.args.key.now =
     elim c.match-remove.branch [
       | in-Some w ↦ ap (λ v. v.items) w.adders-is ∙ ap items_of (sym w.in-Some.is ∙ c.remove.ensures.value)

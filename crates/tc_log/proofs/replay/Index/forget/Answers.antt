@@ -23,7 +23,7 @@ returns-then-is_empty-clause-index c log h =
     (λ k. ap items_of (none_there key_cmp c.clear-then-is_empty.new.self c.clear-then-is_empty.ensures.len k)) refl refl
 
 pub returns-then-is_empty-clause-forgotten : goal.returns-then-is_empty-clause-forgotten
-returns-then-is_empty-clause-forgotten c none = (c.clear.ensures.len, c.clear-then-is_empty.ensures.len)
+returns-then-is_empty-clause-forgotten c none = omega (arith, c.clear.ensures.len, c.clear-then-is_empty.ensures.len)
 
 pub returns-else-is_empty-clause-forgotten : goal.returns-else-is_empty-clause-forgotten
 returns-else-is_empty-clause-forgotten c none = absurd (true≢false (sym (c.is_empty.ensures.1 none) ∙ c.if-is_empty.false))

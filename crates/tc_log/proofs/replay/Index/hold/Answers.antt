@@ -6,7 +6,7 @@ use Rattle.tc_log.proofs.replay.Index.hold.Goals as goal
 
 pub returns-then-is_add-clause-adders : goal.returns-then-is_add-clause-adders
 returns-then-is_add-clause-adders c =
-    rw (sym c.is_add.ensures ∙ c.if-is_add.true, sym c.key.ensures) c.add.ensures
+    rw (sym c.is_add.ensures ∙ c.if-is_add.true, sym c.key.ensures) c.add.ensures.puts
 
 pub returns-in_ok-insert-clause-holders : goal.returns-in_ok-insert-clause-holders
 returns-in_ok-insert-clause-holders c =

@@ -6,7 +6,7 @@ use Rattle.tc_log.specs.Replay.{IsIndex, TakesIn, Holds, Gains, latest_in, holde
 use Rattle.tc_log.specs.declared.replay.Index.{Index}
 use Rattle.tc_log.proofs.Answered.{answered_longer}
 use Rattle.tc_log.proofs.Following.{followed}
-use Rattle.tc_log.proofs.read.step.Goals as goal
+use Rattle.tc_log.proofs.read.take_in.Goals as goal
 
 -- what the goals below share: the records grew, and the index follows
 index_now : (log log' : List Record) (r : Record) (number : ℕ) (old new : Index) → log' ≡ r ∷ log
@@ -23,7 +23,7 @@ index_now log log' r number old new grown is h fits txns keys adders answered la
 
 pub returns-in-Checkpoint-clause-index : goal.returns-in-Checkpoint-clause-index
 returns-in-Checkpoint-clause-index g c =
-    index_now c.args.frames.now.records c.accept.new.self.records c.args.found.now c.len-2.result c.forget.new.self
+    index_now c.args.frames.now.records c.accept.new.self.records c.args.found.now c.len-2.result c.args.index.now
     (record {
       analysis = c.follow.new.self.analysis;
       holders = c.follow.new.self.holders;
@@ -31,7 +31,7 @@ returns-in-Checkpoint-clause-index g c =
       answered = c.answered_from-index.result;
       last_not_session = c.follow.new.self.last_not_session;
     })
-    c.in_ok-accept.ensures.records c.len-2.ensures.count (c.forget.ensures.index c.args.frames.now.records c.requires.index)
+    c.in_ok-accept.ensures.records c.len-2.ensures.count c.requires.index
     (c.fits.ensures.0 c.if-not-fits.false)
     c.in_ok-follow.ensures.analysis c.in_ok-follow.ensures.holders c.in_ok-follow.ensures.adders
     c.answered_from-index.ensures.is c.in_ok-follow.ensures.last
@@ -47,12 +47,13 @@ returns-in_default g c = record {
       let log : List Record = c.args.frames.now.records in
       let At : List Record → Type 0 = λ l. FitsCheckpoint l c.follow.new.self.answered in
       let known : FitsCheckpoint log c.follow.new.self.answered = let P : ℕ → Type 0 = λ n. FitsCheckpoint log n in
-      subst P (sym c.in_ok-follow.ensures.answered) (c.forget.ensures.index log c.requires.index).answered in
-      index_now log c.accept.new.self.records r c.len-2.result c.forget.new.self c.follow.new.self
-      c.in_ok-accept.ensures.records c.len-2.ensures.count (c.forget.ensures.index log c.requires.index)
+      subst P (sym c.in_ok-follow.ensures.answered) c.requires.index.answered in
+      index_now log c.accept.new.self.records r c.len-2.result c.args.index.now c.follow.new.self
+      c.in_ok-accept.ensures.records c.len-2.ensures.count c.requires.index
       (c.fits.ensures.0 c.if-not-fits.false)
       c.in_ok-follow.ensures.analysis c.in_ok-follow.ensures.holders c.in_ok-follow.ensures.adders
       (subst At (sym c.in_ok-accept.ensures.records) (answered_longer r log c.follow.new.self.answered known))
       c.in_ok-follow.ensures.last;
   refused = tt;
+  one_more = c.in_ok-follow.ensures.one_more;
 }
