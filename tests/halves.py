@@ -181,8 +181,18 @@ def pages(shell, folder, checks):
     checks.check("at last", look(shell, folder), whole)
 
 
+def sessions(shell, folder, checks):
+    """A low number that is a session's own, and a device that fails."""
+    told, status, _, _ = both(shell, folder, "settle\nlow 1\nsettle\nconnect\nsettle\n")
+    checks.check("low", (told, status), (["settled", "request 3", "settled", "request 4", "settled"], 0))
+    told, status, _, _ = both(shell, folder, "fail tclog 1\nsettle\nsettle\n")
+    checks.check("fail", (told, status), (["set", "no 10 Device"], 3))
+
+
 def main(shell):
     checks, folder = Checks(), tempfile.mkdtemp()
+    os.mkdir(f"{folder}/other")
+    sessions(shell, f"{folder}/other", checks)
     messages(shell, folder, checks)
     pages(shell, folder, checks)
     shutil.rmtree(folder)
