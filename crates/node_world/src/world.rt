@@ -16,6 +16,7 @@ ghost use Rattle.node_sides.specs.node_laws.specs.Failing.{AreToCome};
 ghost use Rattle.node_sides.specs.node_laws.specs.Forgetting.{without_messages};
 ghost use Rattle.node_sides.specs.node_laws.specs.Node.{fresh_node, joined, if_up};
 ghost use Rattle.node_sides.specs.node_laws.specs.Simulation.{NodeStandsFor};
+ghost use Rattle.node_sides.specs.node_laws.specs.Sound.{SaysNoBadBytes};
 ghost use Rattle.node_sides.specs.node_laws.specs.Standing.{IsNode, StandsForSome};
 ghost use Rattle.node_sides.specs.node_laws.specs.Stepping.{IsStep};
 ghost use Rattle.simulation.specs.Reading.{machine_read};
@@ -116,9 +117,10 @@ impl<D: CrashLog, P: CrashPages> World<D, P> {
 
     /// One event. What it came to and what it left are what the components' contracts say. Whatever list machine the
     /// node stood for, it leads from there to one that the node stands for then. What holds of a node at every moment
-    /// holds after it too.
+    /// holds after it too. No event is refused for bytes: a component that is restarted reads what its devices hold.
     pub fn step(&mut self, event: &Event) -> Out
-        ensures { IsStep self.old event.now result self.new }
+        ensures step { IsStep self.old event.now result self.new }
+        ensures readable { SaysNoBadBytes result }
     {
         let mut out = Out::Nothing;
         self.step_into(event, &mut out);

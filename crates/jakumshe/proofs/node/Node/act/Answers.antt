@@ -9,5 +9,5 @@ returns-clause-acted c = inr (record {
   tells = c.in-Ok.ensures.told;
   ends = c.answer.ensures ∙ ap (first_end (answers c.args.txn)) c.deref.ensures.value;
   tended = c.step.result;
-  tends = c.step.ensures;
+  tends = c.step.ensures.step;
 })
