@@ -90,7 +90,14 @@ module _ (D : RattleType) (d : log_device.Ghosts D.Denot) (sd : IsSend D) (P : R
   system_send = search (tree_send, system.the_send) depth 20
 
   dc_inside_send : IsSend (DcInside.the_row D P d p)
-  dc_inside_send = search (base.the_send, performances_send, system_send, sendable) depth 40
+  dc_inside_send = recorded_send (DcInside.the_field D P d p).row _ _ (DcInside.the_type D P d p).to_one
+      (struct_send (shape (DcInside.the_type D P d p)) (
+        search sendable,
+        (search sendable, (search sendable, (search sendable, (search sendable, (search sendable, (
+          system_send,
+          (search (base.the_send, sendable) depth 20, (search (performances_send, sendable) depth 20, tt)),
+        )))))),
+      ))
 
   dc_send : IsSend (Dc.the_row D P d p)
   dc_send = search (dc_inside_send, sendable) depth 20

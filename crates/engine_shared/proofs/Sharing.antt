@@ -1,7 +1,8 @@
 -- What the threads share may go from one to another: each type from what it holds, since a search that goes down through
 -- them all runs out of steps. A type that holds no tree is shown by its own fields alone.
 use denote.RattleType.{RattleType}
-use denote.Param.Send.{IsSend, IsSync, sendable}
+use denote.Struct.Declared.{shape}
+use denote.Param.Send.{IsSend, IsSync, recorded_send, struct_send, sendable}
 use Rattle.std.proofs.Crossing.{crosses}
 use Rattle.std.proofs.sync.atomic.AtomicU64.TheSendSync as number
 use Rattle.dc_tree.proofs.tree.node.Node.TheLaws.TheKnot as node
@@ -46,7 +47,14 @@ module _ (D : RattleType) (d : log_device.Ghosts D.Denot) (sd : IsSend D) (P : R
   system_send = search (tree_send, system.the_send) depth 20
 
   dc_inside_send : IsSend (DcInside.the_row D P d p)
-  dc_inside_send = search (base.the_send, performances_send, system_send, sendable) depth 40
+  dc_inside_send = recorded_send (DcInside.the_field D P d p).row _ _ (DcInside.the_type D P d p).to_one
+      (struct_send (shape (DcInside.the_type D P d p)) (
+        search sendable,
+        (search sendable, (search sendable, (search sendable, (search sendable, (search sendable, (
+          system_send,
+          (search (base.the_send, sendable) depth 20, (search (performances_send, sendable) depth 20, tt)),
+        )))))),
+      ))
 
   dc_send : IsSend (Dc.the_row D P d p)
   dc_send = search (dc_inside_send, sendable) depth 20
