@@ -2,11 +2,12 @@
 """Usage: tests/network.py SHELL [RUNS [OPERATIONS [FIRST]]]. The two halves of a node as processes, and a network between
 them over UDP on the loopback.
 
-SHELL is a built undo_shell: one process of it is the data component (`dc`), another the transaction component (`tc`), which
-plays a script of some OPERATIONS (2,000 unless they are given), each on a store of its own. By the run's seed, FIRST (1) and
-so on, messages are lost (30 %), sent twice (20 %), held back so that others overtake them, and beside them comes what is no
-message; and either process is killed and started again. What clients were told is compared with a plain model, and at the end so are the rows of both. Prints a line for each run that differs, then
-the counts of all runs; exit status 1 where one differs.
+SHELL is a built undo_shell: one process of it is the data component (`dc`), another the transaction component (`tc`),
+which plays a script of some OPERATIONS (2,000 unless they are given), each on a store of its own. By the run's seed,
+FIRST (1) and so on, messages are lost (30 %), sent twice (20 %), held back so that others overtake them, and beside them
+comes what is no message; and either process is killed and started again. What clients were told is compared with a plain
+model, and at the end so are the rows of both. Prints a line for each run that differs, then the counts of all runs; exit
+status 1 where one differs.
 """
 import collections
 import os
