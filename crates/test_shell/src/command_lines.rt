@@ -67,7 +67,11 @@ fn put_task(text: &mut String, task: Task<'_>) -> Result<(), Refusal> {
             put_stored(text, "tc", store)?;
             put_script(text, script)
         }
-        Task::Pool { sessions, rounds } => Ok(write!(text, "pool {sessions} {rounds}")?),
+        Task::Pool {
+            sessions,
+            rounds,
+            locks,
+        } => Ok(write!(text, "pool {sessions} {rounds} {locks}")?),
         Task::Explain { at } => put_numbered(text, "explain", at),
         Task::Draw { last } => put_numbered(text, "draw", last),
     }

@@ -2,7 +2,7 @@
 //! a plain reading of the rule gives, and once beside a text that was written out.
 ghost use Rattle.std.specs.Prelude.{◌<◌};
 
-use shell_pool::pool;
+use shell_pool::{Locks, pool};
 use shell_scripts::DONE;
 use std::alloc::{AllocError, Global};
 use std::collections::BTreeMap;
@@ -15,6 +15,9 @@ const MOST: usize = 8;
 
 /// How many rounds they play.
 const ROUNDS: [u64; 6] = [1, 2, 3, 4, 5, 12];
+
+/// At which engine.
+const ENGINES: [Locks; 2] = [Locks::One, Locks::Three];
 
 /// How many runs write what they are to, and how many write something else.
 #[derive(Clone, Copy)]
@@ -32,13 +35,32 @@ impl Runs {
         }
     }
 
+    // Plays such a run at each engine.
+    fn play<R>(
+        &mut self,
+        rt: R,
+        alloc: Global,
+        clients: usize,
+        rounds: u64,
+        wanted: &[u8],
+    ) -> io::Result<()>
+    where
+        R: Print + Threads + Wait + Copy + Send + Sync + 'static,
+        requires { 0 < clients }
+    {
+        for locks in ENGINES {
+            self.count(writes(rt, alloc, locks, clients, rounds, wanted)?);
+        }
+        Ok(())
+    }
+
     pub fn print(&self, rt: &HostRuntime) -> io::Result<()> {
         println!(rt; "runs: {} agree, {} differ", self.agree, self.differ)
     }
 }
 
-/// Plays each of these runs, and prints a line for each that writes something else than it is to write. The text is that
-/// of eight clients over five rounds.
+/// Plays each of these runs at each engine, and prints a line for each that writes something else than it is to write. The
+/// text is that of eight clients over five rounds.
 pub fn compare_runs<R>(rt: R, alloc: Global, text: &[u8]) -> io::Result<Runs>
 where
     R: Print + Threads + Wait + Copy + Send + Sync + 'static,
@@ -47,24 +69,31 @@ where
         agree: 0,
         differ: 0,
     };
-    runs.count(writes(rt, alloc, MOST, 5, text)?);
+    runs.play(rt, alloc, MOST, 5, text)?;
     for clients in 1..=MOST {
         for rounds in ROUNDS {
             let wanted = expected(alloc, clients, rounds)?;
-            runs.count(writes(rt, alloc, clients, rounds, wanted.as_bytes())?);
+            runs.play(rt, alloc, clients, rounds, wanted.as_bytes())?;
         }
     }
     Ok(runs)
 }
 
 /// Whether the run writes this, and ends well. Prints its size where it doesn't.
-fn writes<R>(rt: R, alloc: Global, clients: usize, rounds: u64, wanted: &[u8]) -> io::Result<bool>
+fn writes<R>(
+    rt: R,
+    alloc: Global,
+    locks: Locks,
+    clients: usize,
+    rounds: u64,
+    wanted: &[u8],
+) -> io::Result<bool>
 where
     R: Print + Threads + Wait + Copy + Send + Sync + 'static,
     requires { 0 < clients }
 {
     let mut text = Vec::new(alloc);
-    let status = pool(rt, alloc, clients, rounds, &mut text);
+    let status = pool(rt, alloc, locks, clients, rounds, &mut text);
     let agrees = status == DONE && text.as_slice() == wanted;
     if !agrees {
         println!(&rt; "{clients} clients over {rounds} rounds: exit status {status}")?;
