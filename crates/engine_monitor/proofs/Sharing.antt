@@ -1,7 +1,7 @@
 -- A session may go from one thread to another, as what the threads share may: each type from what it holds, since a search
 -- that goes down through them all runs out of steps. A type that holds no tree is shown by its own fields alone.
 use denote.RattleType.{RattleType}
-use denote.Param.Send.{IsSend, IsSync, part_keyless, SendAt, recorded_send_at, recorded_send_of, sendable, struct_send_at}
+use denote.Param.Send.{IsSend, IsSync, part_keyless, SendAt, recorded_send, recorded_send_at, recorded_send_of, sendable, struct_send, struct_send_at}
 use denote.Struct.Declared.{shape}
 use Rattle.std.proofs.Crossing.{crosses}
 use Rattle.dc_tree.proofs.tree.node.Node.TheLaws.TheKnot as node
