@@ -1,4 +1,6 @@
 //! What several clients of one engine do.
+ghost use Rattle.std.specs.Prelude.{◌<◌};
+
 use crate::draws::{drawn, seed};
 use std::time::Duration;
 
@@ -73,7 +75,9 @@ impl Crew {
     }
 
     /// How many sessions there are.
-    pub fn sessions(self) -> usize {
+    pub fn sessions(self) -> usize
+        ensures some { 0 < result }
+    {
         match self.manner {
             Manner::Turns => 8,
             _ => usize::from(CLIENTS),

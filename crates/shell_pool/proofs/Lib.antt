@@ -1,2 +1,3 @@
+mod Numbering
 pub mod Reading
 pub mod Sharing

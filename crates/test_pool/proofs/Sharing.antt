@@ -13,13 +13,13 @@ use Rattle.stable.specs.contracts.mem_log.MemLog as MemLog
 use Rattle.stable.specs.contracts.mem_log.MemLogLogDevice.TheImpl as log
 use Rattle.stable.specs.contracts.mem_pages.MemPages as MemPages
 use Rattle.stable.specs.contracts.mem_pages.MemPagesPageDevice.TheImpl as pages
-use Rattle.test_pool_cases.proofs.Sharing.{client_send}
+use Rattle.test_pool_cases.proofs.Sharing.{client_field_send}
 use Rattle.test_pool.specs.contracts.threads.Ended as Ended
 
 pub ended_send : (S : RattleType) → IsSend S → IsSend (Ended.the_row S)
 ended_send S s = recorded_send (Ended.the_field S).row _ _ (Ended.the_type S).to_one
     (struct_send (shape (Ended.the_type S)) (
-      client_send S s,
+      client_field_send S s,
       (search (refusal.the_send, crosses, sendable) depth 20, tt),
     ))
 

@@ -90,10 +90,9 @@ fn add_clients<S: Calls + Drop>(
     sessions: Vec<S>,
 ) -> bool {
     let mut all = true;
-    let mut number = 0;
     for session in sessions {
+        let number = clients.len() as u64;
         all = clients.push(Client::new(alloc, number, session)).is_ok() && all;
-        number += 1;
     }
     all
 }
