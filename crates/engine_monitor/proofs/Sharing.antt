@@ -93,10 +93,25 @@ module _ (D : RattleType) (d : log_device.Ghosts D.Denot) (sd : IsSend D) (P : R
   dc_inside_send = recorded_send (DcInside.the_field D P d p).row _ _ (DcInside.the_type D P d p).to_one
       (struct_send (shape (DcInside.the_type D P d p)) (
         search sendable,
-        (search sendable, (search sendable, (search sendable, (search sendable, (search sendable, (
-          system_send,
-          (search (base.the_send, sendable) depth 20, (search (performances_send, sendable) depth 20, tt)),
-        )))))),
+        (
+          search sendable,
+          (
+            search sendable,
+            (
+              search sendable,
+              (
+                search sendable,
+                (
+                  search sendable,
+                  (
+                    system_send,
+                    (search (base.the_send, sendable) depth 20, (search (performances_send, sendable) depth 20, tt)),
+                  ),
+                ),
+              ),
+            ),
+          ),
+        ),
       ))
 
   dc_send : IsSend (Dc.the_row D P d p)
