@@ -5,5 +5,7 @@ mod Refusing
 mod Resuming
 mod Marking
 mod Closing
+mod Batching
+mod Beginning
 pub mod Opening
 pub mod Sharing

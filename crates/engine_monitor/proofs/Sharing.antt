@@ -53,6 +53,8 @@ use Rattle.node_world.specs.contracts.world.World.TheInside as WorldInside
 use Rattle.engine_monitor.proofs.ended.Unfinished.TheSendSync as unfinished
 use Rattle.engine_monitor.proofs.known.Known.TheSendSync as known
 use Rattle.std.specs.contracts.option.Option as Option
+use Rattle.engine_monitor.specs.contracts.client.Client as Client
+use Rattle.engine_monitor.specs.contracts.client.Client.TheInside as ClientInside
 use Rattle.engine_monitor.specs.contracts.ended.Unfinished as Unfinished
 use Rattle.engine_monitor.specs.contracts.known.Known as Known
 use Rattle.engine_monitor.specs.contracts.held.Held as Held
@@ -166,20 +168,27 @@ module _ (D : RattleType) (d : log_device.Ghosts D.Denot) (sd : IsSend D) (P : R
     known_send : IsSend (Known.the_row J n)
     known_send = search (known.the_send) depth 12
 
-    session_inside_send : IsSend (SessionInside.the_row J D P n d p)
-    session_inside_send = recorded_send_of (SessionInside.the_field J D P n d p).row _ _ (SessionInside.the_type J D P n d p).to_one
-        (λ x. struct_send_at (shape (SessionInside.the_type J D P n d p)) ((SessionInside.the_type J D P n d p).to x) (
+    client_inside_send : IsSend (ClientInside.the_row J n)
+    client_inside_send = recorded_send_of (ClientInside.the_field J n).row _ _ (ClientInside.the_type J n).to_one
+        (λ x. struct_send_at (shape (ClientInside.the_type J n)) ((ClientInside.the_type J n).to x) (
           send_at _ caller_send _,
           (
             send_at _ known_send _,
             (
               send_at _ unfinished_send _,
-              (
-                recorded_send_at (Outs.the_field).row _ _ (Outs.the_type).to_one outs.the_send x.outs,
-                (send_at _ arc_send _, tt),
-              ),
+              (recorded_send_at (Outs.the_field).row _ _ (Outs.the_type).to_one outs.the_send x.outs, tt),
             ),
           ),
+        ))
+
+    client_send : IsSend (Client.the_row J n)
+    client_send = search (client_inside_send, sendable) depth 20
+
+    session_inside_send : IsSend (SessionInside.the_row J D P n d p)
+    session_inside_send = recorded_send_of (SessionInside.the_field J D P n d p).row _ _ (SessionInside.the_type J D P n d p).to_one
+        (λ x. struct_send_at (shape (SessionInside.the_type J D P n d p)) ((SessionInside.the_type J D P n d p).to x) (
+          send_at _ client_send _,
+          (send_at _ arc_send _, tt),
         ))
 
     pub any_session_send : IsSend (Session.the_row J D P n d p)

@@ -10,8 +10,8 @@ ghost use Rattle.engine_monitor.specs.Ending.{Ends, IsBetweenCalls, IsLeftWith, 
 use crate::answers::bar;
 use crate::ended::{Ended, Unfinished, left_by};
 use crate::known::Known;
-use crate::shared::Shared;
 use crate::sort::Sort;
+use crate::turn::Turn;
 use engine_guarded::engine_answers::Ask;
 use engine_guarded::engine_history::Naming;
 use engine_guarded::{Caller, Outs};
@@ -19,11 +19,11 @@ use record_key::Refusal;
 use stable::{CrashLog, CrashPages};
 use std::sync::Wait;
 
-impl<J: Naming, D: CrashLog, P: CrashPages> Shared<J, D, P> {
+impl<J: Naming, D: CrashLog, P: CrashPages> Turn<'_, J, D, P> {
     // Lets the next call be made. As long as an earlier one is unfinished it is refused as the transaction component refuses
     // a transaction's other calls; and NotOpen where a crash has cut that off, which is forgotten then.
     fn free<R: Wait>(
-        &self,
+        &mut self,
         rt: &R,
         caller: &mut Caller<J>,
         unfinished: &mut Option<Unfinished>,
@@ -48,7 +48,7 @@ impl<J: Naming, D: CrashLog, P: CrashPages> Shared<J, D, P> {
 
     /// The call that begins a transaction, unless the session has one that is alive.
     pub(crate) fn begin<R: Wait>(
-        &self,
+        &mut self,
         rt: &R,
         caller: &mut Caller<J>,
         known: &mut Known<J>,
@@ -78,7 +78,7 @@ impl<J: Naming, D: CrashLog, P: CrashPages> Shared<J, D, P> {
     /// A call of a session's transaction, up to what was told of it. Refused with no entry where no transaction is alive,
     /// and as long as an earlier call of it is unfinished.
     pub(crate) fn run<R: Wait>(
-        &self,
+        &mut self,
         rt: &R,
         caller: &mut Caller<J>,
         known: &mut Known<J>,
@@ -105,7 +105,7 @@ impl<J: Naming, D: CrashLog, P: CrashPages> Shared<J, D, P> {
 
     /// Carries on what is unfinished, and tells what that asks for. Refused Unsent where nothing is.
     pub(crate) fn again<R: Wait>(
-        &self,
+        &mut self,
         rt: &R,
         caller: &mut Caller<J>,
         known: &mut Known<J>,

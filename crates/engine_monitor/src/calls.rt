@@ -13,7 +13,7 @@ use crate::ended::{Ended, ended_by};
 use crate::held::Held;
 use crate::known::Known;
 use crate::resting::nap;
-use crate::shared::Shared;
+use crate::turn::Turn;
 use engine_guarded::engine_answers::Ask;
 use engine_guarded::engine_history::Naming;
 use engine_guarded::{CallStatus, Caller, Heard, Kind, Outs};
@@ -39,10 +39,10 @@ fn tell_marks<J: Naming, D: CrashLog, P: CrashPages>(
     }
 }
 
-impl<J: Naming, D: CrashLog, P: CrashPages> Shared<J, D, P> {
+impl<J: Naming, D: CrashLog, P: CrashPages> Turn<'_, J, D, P> {
     /// One hold: a call of the session's transaction, if one is alive, as far as the node lets it come.
     pub(crate) fn ask_once<R: Wait>(
-        &self,
+        &mut self,
         rt: &R,
         caller: &mut Caller<J>,
         known: &mut Known<J>,
@@ -58,21 +58,23 @@ impl<J: Naming, D: CrashLog, P: CrashPages> Shared<J, D, P> {
         ensures calls { IfSome result (λ made. ((calls_in caller.old).live ≡ Some made.0)
             × CallsWith (event_of made.0 ask) outs.new.call (calls_in caller.old) made.1 (calls_in caller.new)) }
     {
-        let (entries, marks) = (self.published.entries(), self.published.marks());
-        let mut guard = self.hold(rt);
+        let shared = self.shared;
+        let (entries, marks) = (shared.published.entries(), shared.published.marks());
+        let mut guard = self.take(rt);
         let held = &mut *guard;
         let made = held
             .guarded
-            .ask(rt, entries, caller, ask, self.defers, outs);
+            .ask(rt, entries, caller, ask, shared.defers, outs);
         if let Some((_, status)) = &made {
             tell_marks(held, marks, caller, known, status);
         }
+        self.pause(guard);
         made
     }
 
     /// One hold: the call that begins a transaction, unless one is alive.
     pub(crate) fn begin_once<R: Wait>(
-        &self,
+        &mut self,
         rt: &R,
         caller: &mut Caller<J>,
         outs: &mut Outs,
@@ -87,13 +89,16 @@ impl<J: Naming, D: CrashLog, P: CrashPages> Shared<J, D, P> {
         ensures calls { IfSome result (λ status.
             CallsWith event.Begin outs.new.call (calls_in caller.old) status (calls_in caller.new)) }
     {
-        let entries = self.published.entries();
-        self.hold(rt).guarded.begin(rt, entries, caller, outs)
+        let entries = self.shared.published.entries();
+        let mut guard = self.take(rt);
+        let begun = guard.guarded.begin(rt, entries, caller, outs);
+        self.pause(guard);
+        begun
     }
 
     /// One hold: a call of which nothing was told yet goes on, as far as the node lets it come.
     pub(crate) fn resume_once<R: Wait>(
-        &self,
+        &mut self,
         rt: &R,
         caller: &mut Caller<J>,
         known: &mut Known<J>,
@@ -107,17 +112,19 @@ impl<J: Naming, D: CrashLog, P: CrashPages> Shared<J, D, P> {
         ensures status { IsStatus (calls_in caller.old) (calls_in caller.new) result }
         ensures call { outs.new.call ≡ outs.old.call }
     {
-        let (entries, marks) = (self.published.entries(), self.published.marks());
+        let shared = self.shared;
+        let (entries, marks) = (shared.published.entries(), shared.published.marks());
         let kind = Kind::of(&outs.call);
-        let mut guard = self.hold(rt);
+        let mut guard = self.take(rt);
         let held = &mut *guard;
         let status = held.guarded.resume(rt, entries, caller, txn, kind, outs);
         tell_marks(held, marks, caller, known, &status);
+        self.pause(guard);
         status
     }
 
     /// One hold: whether a crash has cut the session's latest call off, of which nothing was told yet.
-    pub(crate) fn cut_once<R: Wait>(&self, rt: &R, caller: &mut Caller<J>) -> bool
+    pub(crate) fn cut_once<R: Wait>(&mut self, rt: &R, caller: &mut Caller<J>) -> bool
         requires rest { caller.old.busy ≡ false }
         requires untold { line_of (calls_in caller.old).latest ≡ None }
         ensures number { caller.new.number ≡ caller.old.number }
@@ -126,22 +133,26 @@ impl<J: Naming, D: CrashLog, P: CrashPages> Shared<J, D, P> {
         ensures untold { result ≡ true → IsUntold (calls_in caller.old) (calls_in caller.new) }
         ensures cut { result ≡ true → (calls_in caller.new).live ≡ None }
     {
-        let entries = self.published.entries();
-        self.hold(rt).guarded.take_cut(rt, entries, caller)
+        let entries = self.shared.published.entries();
+        let mut guard = self.take(rt);
+        let is_cut = guard.guarded.take_cut(rt, entries, caller);
+        self.pause(guard);
+        is_cut
     }
 
     /// One hold: the session is told how far the log is stable, by an entry of its own.
-    pub(crate) fn learn_once<R: Wait>(&self, rt: &R, known: &mut Known<J>) {
-        let marks = self.published.marks();
-        let mut guard = self.hold(rt);
+    pub(crate) fn learn_once<R: Wait>(&mut self, rt: &R, known: &mut Known<J>) {
+        let marks = self.shared.published.marks();
+        let mut guard = self.take(rt);
         known.learn(&mut *guard, marks);
+        self.pause(guard);
     }
 
-    /// Goes on until the session's latest call has ended. Where the node lets it come no further its thread stays away
-    /// from the lock for a while; a commit that has given the lock back takes it again at once.
+    /// Goes on until the session's latest call has ended. Where the node lets it come no further its thread gives the lock
+    /// back and stays away from it for a while; a commit that shares its force takes it again at once.
     #[tactic(auto, using(crate::proofs::Ending::finishes, crate::proofs::Ending::follows_on, crate::proofs::Ending::untold_still))]
     pub(crate) fn carry_on<R: Wait>(
-        &self,
+        &mut self,
         rt: &R,
         caller: &mut Caller<J>,
         known: &mut Known<J>,
@@ -160,11 +171,12 @@ impl<J: Naming, D: CrashLog, P: CrashPages> Shared<J, D, P> {
             → Finishes outs.old.call mid result (calls_in caller.new) }
     {
         let mut status = first;
-        let mut is_late = !self.defers;
+        let mut is_late = !self.shared.defers;
         for _ in rt.forever() {
             if let Some(ended) = ended_by(&outs.call, status) {
                 return ended;
             }
+            self.leave();
             if is_late {
                 nap(rt);
             }

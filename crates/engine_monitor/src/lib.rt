@@ -7,7 +7,9 @@
 
 mod answers;
 mod asking;
+mod batch;
 mod calls;
+mod client;
 mod ended;
 mod engine;
 mod generic;
@@ -19,7 +21,9 @@ mod session;
 mod session_states;
 mod shared;
 mod sort;
+mod turn;
 
+pub use batch::{BatchRefused, RefusedAct};
 pub use engine::Engine;
 pub use engine_guarded::Closed;
 pub use engine_guarded::engine_answers::{Calls, Commands};

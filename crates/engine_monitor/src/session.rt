@@ -7,25 +7,22 @@ ghost use Rattle.engine_guarded.specs.engine_history.specs.node_laws.specs.decla
 ghost use Rattle.engine_guarded.specs.engine_history.specs.Sessions.{IsClosed};
 ghost use Rattle.engine_guarded.specs.engine_answers.specs.Again.{CarriesOn, IsSeenBy, RefusedAgain};
 ghost use Rattle.engine_guarded.specs.engine_answers.specs.Answers.{AddsCall, AddsLiveCall, RefusedBegin, RefusedCall};
-ghost use Rattle.engine_guarded.specs.engine_answers.specs.Asking.{event_of};
-ghost use Rattle.engine_monitor.specs.Answering.{is_save};
+ghost use Rattle.engine_monitor.specs.Batches.{IsBatch, IsRefusedBatch};
 ghost use Rattle.engine_monitor.specs.Beginning.{ShowsBegin};
 ghost use Rattle.engine_monitor.specs.Ending.{calls_in};
-ghost use Rattle.engine_monitor.specs.Sessions.{AnswersCall, IsStableAt, WasStable, session_of};
+ghost use Rattle.engine_monitor.specs.Sessions.{IsStableAt, WasStable, session_of};
 
-use crate::answers::{begun, saved, told};
-use crate::ended::Unfinished;
+use crate::batch::BatchRefused;
+use crate::client::Client;
 use crate::known::Known;
-use crate::resting::nap;
 use crate::shared::Shared;
-use crate::sort::Sort;
 use codec::Rows;
+use engine_guarded::Caller;
 use engine_guarded::engine_answers::{Ask, Told};
 use engine_guarded::engine_history::Naming;
-use engine_guarded::engine_history::node_laws::Out;
-use engine_guarded::{Caller, Outs};
 use record_key::{Answer, Key, Op, Refusal, Value};
 use stable::{CrashLog, CrashPages, MemLog, MemPages};
+use std::alloc::Global;
 use std::marker::Model;
 use std::sync::{Arc, Wait};
 
@@ -33,10 +30,7 @@ use std::sync::{Arc, Wait};
 /// answered, and what it has seen of the marks.
 #[derive(Drop)]
 pub struct Session<J: Naming, D: CrashLog = MemLog, P: CrashPages = MemPages> {
-    caller: Caller<J>,
-    known: Known<J>,
-    unfinished: Option<Unfinished>,
-    outs: Outs,
+    client: Client<J>,
     shared: Arc<Shared<J, D, P>>,
 }
 
@@ -44,16 +38,12 @@ impl<J: Naming, D: CrashLog, P: CrashPages> Model for Session<J, D, P> {
     ghost use Rattle.std.specs.Coded.{codes};
     ghost use Rattle.atomic_table.specs.Seated.{table_id_coded};
     ghost use Rattle.engine_guarded.specs.engine_history.specs.Callers.{SessionView};
-    ghost use Rattle.engine_monitor.specs.Ending.{IsBetweenCalls};
-    ghost use Rattle.engine_monitor.specs.Sessions.{session_of};
 
     ghost Value = { SessionView };
 
     ghost coded = { Prim.hlevel (codes, table_id_coded) };
 
-    ghost view = { λ s. session_of s.caller s.known };
-
-    ghost invariant = { λ s. IsBetweenCalls s.caller s.unfinished s.outs.call };
+    ghost view = { λ s. s.client };
 }
 
 impl<J: Naming, D: CrashLog + Drop, P: CrashPages + Drop> Session<J, D, P> {
@@ -68,13 +58,7 @@ impl<J: Naming, D: CrashLog + Drop, P: CrashPages + Drop> Session<J, D, P> {
         ensures { result ≡ session_of caller known }
     {
         Session {
-            caller,
-            known,
-            unfinished: None,
-            outs: Outs {
-                call: Out::Nothing,
-                line: Out::Nothing,
-            },
+            client: Client::new(caller, known),
             shared,
         }
     }
@@ -85,8 +69,8 @@ impl<J: Naming, D: CrashLog + Drop, P: CrashPages + Drop> Session<J, D, P> {
         ensures calls { calls_in result ≡ self.calls }
         ensures rest { result.busy ≡ false }
     {
-        let Session { caller, .. } = self;
-        caller
+        let Session { client, .. } = self;
+        client.into_caller()
     }
 
     /// How far the log is stable, and up to which number all is answered and announced, as this call reads it. It neither
@@ -97,8 +81,8 @@ impl<J: Naming, D: CrashLog + Drop, P: CrashPages + Drop> Session<J, D, P> {
         ensures never_falls { (self.old.seat.stable ≤ result.0) × (self.old.seat.low ≤ result.1) }
         ensures read { self.new.seat ≡ having_read self.old.seat result.0 result.1 }
     {
-        let Session { known, shared, .. } = self;
-        known.read(shared.published.marks())
+        let Session { client, shared } = self;
+        client.read(shared.published.marks())
     }
 
     /// Begins a transaction, and answers its number: right before that call the session had none alive. Refused Full where
@@ -110,37 +94,8 @@ impl<J: Naming, D: CrashLog + Drop, P: CrashPages + Drop> Session<J, D, P> {
         ensures alone { IfOk result (λ t. ShowsBegin J.entries self.old.number (out.Begun t)) }
         ensures refused { IfErr result (λ r. RefusedBegin self.old.calls r self.new.calls) }
     {
-        let Session {
-            caller,
-            known,
-            unfinished,
-            outs,
-            shared,
-        } = self;
-        let Some(ended) = shared.begin(rt, caller, known, unfinished, outs) else {
-            return Err(Refusal::Full);
-        };
-        begun(&outs.call, ended)
-    }
-
-    // A call of the session's transaction that is told of, from the hold in which it is made to what was told of it.
-    fn run<R: Wait>(&mut self, rt: &R, ask: Ask) -> Result<Told, Refusal>
-        requires told { is_save ask ≡ false }
-        ensures number { self.new.number ≡ self.old.number }
-        ensures answered { IfOk result (λ told.
-            AnswersCall (λ t. event_of t ask) told self.old.calls self.new.calls) }
-        ensures refused { IfErr result (λ r. RefusedCall (λ t. event_of t ask) self.old.calls r self.new.calls) }
-    {
-        let sort = Sort::of(&ask);
-        let Session {
-            caller,
-            known,
-            unfinished,
-            outs,
-            shared,
-        } = self;
-        let ended = shared.run(rt, caller, known, unfinished, outs, ask)?;
-        told(sort, &outs.call, ended)
+        let Session { client, shared } = self;
+        client.begin(rt, &mut shared.turn(false))
     }
 
     /// Does an operation, and answers what it gave. Refused NotOpen where the session has no transaction that is alive,
@@ -154,10 +109,8 @@ impl<J: Naming, D: CrashLog + Drop, P: CrashPages + Drop> Session<J, D, P> {
         ensures refused { IfErr result (λ r.
             RefusedCall (λ t. event.Act t op.now) self.old.calls r self.new.calls) }
     {
-        match self.run(rt, Ask::Act(op.copied()))? {
-            Told::Answer(answer) => Ok(answer),
-            _ => unreachable!(),
-        }
+        let Session { client, shared } = self;
+        client.act(rt, &mut shared.turn(false), op)
     }
 
     /// The value at a key.
@@ -168,7 +121,8 @@ impl<J: Naming, D: CrashLog + Drop, P: CrashPages + Drop> Session<J, D, P> {
         ensures refused { IfErr result (λ r.
             RefusedCall (λ t. event.Get t key.now) self.old.calls r self.new.calls) }
     {
-        match self.run(rt, Ask::Get(key.copied()))? {
+        let Session { client, shared } = self;
+        match client.run(rt, &mut shared.turn(false), Ask::Get(key.copied()))? {
             Told::Row(value) => Ok(value),
             _ => unreachable!(),
         }
@@ -183,7 +137,9 @@ impl<J: Naming, D: CrashLog + Drop, P: CrashPages + Drop> Session<J, D, P> {
         ensures refused { IfErr result (λ r.
             RefusedCall (λ t. event.Scan t low.now high.now) self.old.calls r self.new.calls) }
     {
-        match self.run(rt, Ask::Scan(low.copied(), copied_end(high)))? {
+        let Session { client, shared } = self;
+        let ask = Ask::Scan(low.copied(), copied_end(high));
+        match client.run(rt, &mut shared.turn(false), ask)? {
             Told::Rows(rows) => Ok(rows),
             _ => unreachable!(),
         }
@@ -196,15 +152,8 @@ impl<J: Naming, D: CrashLog + Drop, P: CrashPages + Drop> Session<J, D, P> {
             AddsLiveCall (λ t. event.Save t) (out.Saved s) None self.old.calls self.new.calls) }
         ensures refused { IfErr result (λ r. RefusedCall (λ t. event.Save t) self.old.calls r self.new.calls) }
     {
-        let Session {
-            caller,
-            known,
-            unfinished,
-            outs,
-            shared,
-        } = self;
-        let ended = shared.run(rt, caller, known, unfinished, outs, Ask::Save)?;
-        saved(&outs.call, ended)
+        let Session { client, shared } = self;
+        client.save(rt, &mut shared.turn(false))
     }
 
     /// Rolls back to a savepoint; returns once that is done.
@@ -216,7 +165,8 @@ impl<J: Naming, D: CrashLog + Drop, P: CrashPages + Drop> Session<J, D, P> {
         ensures refused { IfErr result (λ r.
             RefusedCall (λ t. event.GoBack t savepoint) self.old.calls r self.new.calls) }
     {
-        match self.run(rt, Ask::GoBack(savepoint))? {
+        let Session { client, shared } = self;
+        match client.run(rt, &mut shared.turn(false), Ask::GoBack(savepoint))? {
             Told::Back => Ok(()),
             _ => unreachable!(),
         }
@@ -230,10 +180,8 @@ impl<J: Naming, D: CrashLog + Drop, P: CrashPages + Drop> Session<J, D, P> {
             × (self.new.calls.live ≡ None)) }
         ensures refused { IfErr result (λ r. RefusedCall (λ t. event.Rollback t) self.old.calls r self.new.calls) }
     {
-        match self.run(rt, Ask::Rollback)? {
-            Told::RolledBack => Ok(()),
-            _ => unreachable!(),
-        }
+        let Session { client, shared } = self;
+        client.rollback(rt, &mut shared.turn(false))
     }
 
     /// Commits the transaction, and answers the number of its Commit record, once that is stable and the session has
@@ -247,11 +195,8 @@ impl<J: Naming, D: CrashLog + Drop, P: CrashPages + Drop> Session<J, D, P> {
         ensures stable { IfOk result (WasStable J.start J.entries) }
         ensures refused { IfErr result (λ r. RefusedCall (λ t. event.Commit t) self.old.calls r self.new.calls) }
     {
-        let Told::Committed(number) = self.run(rt, Ask::Commit)? else {
-            unreachable!()
-        };
-        self.learn(rt, number);
-        Ok(number)
+        let Session { client, shared } = self;
+        client.commit(rt, &mut shared.turn(false))
     }
 
     /// Carries on what is unfinished of the session's transaction, and answers what the call would have: `again` is no
@@ -264,54 +209,30 @@ impl<J: Naming, D: CrashLog + Drop, P: CrashPages + Drop> Session<J, D, P> {
         ensures stable { IfOk result (IsStableAt J.start J.entries) }
         ensures refused { IfErr result (λ r. RefusedAgain self.old.calls r self.new.calls) }
     {
-        let told = self.resume(rt)?;
-        self.learn_of(rt, &told);
-        Ok(told)
+        let Session { client, shared } = self;
+        client.again(rt, &mut shared.turn(false))
     }
 
-    // The unfinished call, up to what was told of it.
-    fn resume<R: Wait>(&mut self, rt: &R) -> Result<Told, Refusal>
+    /// Begins a transaction, does each of the operations and commits, in one hold of the lock, and answers what each gave,
+    /// once the transaction's Commit record is stable and the session has seen it so. The lock is given back meanwhile
+    /// only where a call waits.
+    /// Refused as `begin` is, or NoMemory where there is no room for the answers: nothing is called then. Else it names the
+    /// first operation that was refused, and the transaction is rolled back; or it is refused as `commit` is.
+    pub fn batch<R: Wait>(
+        &mut self,
+        rt: &R,
+        alloc: Global,
+        ops: &[Op],
+    ) -> Result<Vec<Answer>, BatchRefused>
         ensures number { self.new.number ≡ self.old.number }
-        ensures told { IfOk result (λ told. CarriesOn self.old.calls told self.new.calls) }
-        ensures refused { IfErr result (λ r. RefusedAgain self.old.calls r self.new.calls) }
+        ensures answered { IfOk result (λ answers. (n : ℕ) ×
+            IsBatch J.entries self.old.number ops.now answers.items n self.old.calls self.new.calls
+            × (n ≤ self.new.seat.stable) × WasStable J.start J.entries n) }
+        ensures refused { IfErr result (λ refused.
+            IsRefusedBatch J.entries self.old.number ops.now self.old.calls refused self.new.calls) }
     {
-        let Session {
-            caller,
-            known,
-            unfinished,
-            outs,
-            shared,
-        } = self;
-        let (sort, ended) = shared.again(rt, caller, known, unfinished, outs)?;
-        told(sort, &outs.call, ended)
-    }
-
-    // Of a commit that was told the session sees that its record is stable.
-    fn learn_of<R: Wait>(&mut self, rt: &R, told: &Told)
-        ensures same { (self.new.number ≡ self.old.number) × (self.new.calls ≡ self.old.calls) }
-        ensures seen { IsSeenBy self.new.seat.stable told.now }
-        ensures stable { IsStableAt J.start J.entries told.now }
-    {
-        if let Told::Committed(number) = told {
-            self.learn(rt, *number);
-        }
-    }
-
-    // The session sees that the log is stable up to the record: by the hold in which its commit was told, or by another.
-    fn learn<R: Wait>(&mut self, rt: &R, number: u64)
-        ensures same { (self.new.number ≡ self.old.number) × (self.new.calls ≡ self.old.calls) }
-        ensures seen { number ≤ self.new.seat.stable }
-        ensures stable { WasStable J.start J.entries number }
-    {
-        let Session { known, shared, .. } = self;
-        for _ in rt.forever() {
-            if known.reaches(number) {
-                return;
-            }
-            nap(rt);
-            shared.learn_once(rt, known);
-        }
-        unreachable!()
+        let Session { client, shared } = self;
+        client.batch(rt, &mut shared.turn(true), alloc, ops)
     }
 }
 

@@ -1,6 +1,7 @@
 //! A node under its lock, and what is read with no lock.
 use crate::held::Held;
 use crate::resting::hold;
+use crate::turn::Turn;
 use engine_guarded::Published;
 use engine_guarded::engine_history::Naming;
 use stable::{CrashLog, CrashPages};
@@ -26,6 +27,11 @@ impl<J: Naming, D: CrashLog, P: CrashPages> Shared<J, D, P> {
             published,
             defers,
         }
+    }
+
+    /// A session's turn, for one call or, if it keeps the lock, for several.
+    pub(crate) fn turn(&self, keeps: bool) -> Turn<'_, J, D, P> {
+        Turn::new(self, keeps)
     }
 
     /// What lies under the lock, once it is free.

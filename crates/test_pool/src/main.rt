@@ -9,6 +9,7 @@
 //! to be answered like any other then.
 #![tactic(auto)]
 
+mod batches;
 mod going_on;
 mod monitored;
 mod playing;
@@ -16,6 +17,7 @@ mod running;
 mod tally;
 mod threads;
 
+use batches::run_batches;
 use engine_workers::Opened;
 use monitored::run_monitored;
 use playing::Case;
@@ -36,6 +38,7 @@ fn main(rt: HostRuntime) -> io::Result<()> {
     run_tables(rt, alloc, tables.as_str(), &mut tally);
     run_plans(rt, alloc, plans.as_str(), &mut tally);
     tally.count("nine_sessions", refuses_nine(alloc));
+    tally.count("batches", run_batches(&rt, alloc));
     tally.report(&rt)
 }
 

@@ -4,7 +4,7 @@ use Rattle.engine_guarded.specs.engine_history.specs.node_laws.specs.declared.ev
 use Rattle.engine_monitor.proofs.Ending.{follows_status, left_with}
 use Rattle.engine_monitor.specs.Ending.{IsHalfDone, IsLeftWith, calls_in}
 use Rattle.engine_monitor.specs.declared.ended.Unfinished.{Unfinished}
-use Rattle.engine_monitor.proofs.shared.Shared.again.Goals as goal
+use Rattle.engine_monitor.proofs.turn.Turn.again.Goals as goal
 
 pub carry_on-ended-requires-clause-made : goal.carry_on-ended-requires-clause-made
 carry_on-ended-requires-clause-made g c =

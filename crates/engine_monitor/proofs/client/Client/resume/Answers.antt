@@ -10,7 +10,7 @@ use Rattle.engine_monitor.proofs.Resuming.{carries_on, refused_again}
 use Rattle.engine_monitor.specs.Answering.{IsRefusalOf, told_as}
 use Rattle.engine_monitor.specs.Ending.{calls_in}
 use Rattle.engine_monitor.specs.declared.ended.Ended.TheVariants as ended
-use Rattle.engine_monitor.proofs.session.Session.resume.Goals as goal
+use Rattle.engine_monitor.proofs.client.Client.resume.Goals as goal
 
 pub returns-clause-told : goal.returns-clause-told
 returns-clause-told g c =

@@ -11,7 +11,7 @@ use Rattle.engine_guarded.specs.engine_answers.specs.Asking.{is_saved}
 use Rattle.engine_monitor.proofs.Refusing.{refuses_save}
 use Rattle.engine_monitor.specs.Answering.{IsRefusalOf}
 use Rattle.engine_monitor.specs.Ending.{calls_in}
-use Rattle.engine_monitor.proofs.session.Session.save.Goals as goal
+use Rattle.engine_monitor.proofs.client.Client.save.Goals as goal
 
 pub returns-clause-refused : goal.returns-clause-refused
 returns-clause-refused g c =

@@ -14,7 +14,7 @@ use Rattle.engine_monitor.specs.Ending.{calls_in}
 use Rattle.engine_monitor.specs.Sessions.{AnswersCall}
 use Rattle.engine_monitor.specs.declared.ended.Ended.TheVariants as ended
 use Rattle.engine_monitor.specs.declared.sort.Sort.{Sort}
-use Rattle.engine_monitor.proofs.session.Session.run.Goals as goal
+use Rattle.engine_monitor.proofs.client.Client.run.Goals as goal
 
 pub returns-clause-answered : goal.returns-clause-answered
 returns-clause-answered g c =

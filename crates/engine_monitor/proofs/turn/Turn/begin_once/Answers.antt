@@ -8,7 +8,7 @@ use Rattle.engine_guarded.specs.engine_history.specs.declared.step.Step.{Step}
 use Rattle.engine_guarded.specs.engine_history.specs.node_laws.specs.declared.event.Event.TheVariants as event
 use Rattle.engine_guarded.specs.engine_history.specs.node_laws.specs.declared.event.Out.{Out}
 use Rattle.engine_monitor.specs.Beginning.{BeginsAlone}
-use Rattle.engine_monitor.proofs.shared.Shared.begin_once.Goals as goal
+use Rattle.engine_monitor.proofs.turn.Turn.begin_once.Goals as goal
 
 begins : (r : Option CallStatus) (s : ℕ) (es now later : List Step) (o : Out) → later ≡ now
     → IfSome r (λ status. (calls_by s es).live ≡ None)
@@ -20,5 +20,5 @@ begins (Some status) s es now later o same none last =
 
 pub returns-clause-alone : goal.returns-clause-alone
 returns-clause-alone g c =
-    begins c.begin.result c.args.caller.now.number _ c.begin.new.self.steps c.begin.new.caller.steps c.begin.new.outs.call
-    (ap (λ (v : CallerView). v.steps) c.begin.ensures.caller) c.begin.ensures.alone c.begin.ensures.entered
+    begins c.begin-begun.result c.args.caller.now.number _ c.begin-begun.new.self.steps c.begin-begun.new.caller.steps c.begin-begun.new.outs.call
+    (ap (λ (v : CallerView). v.steps) c.begin-begun.ensures.caller) c.begin-begun.ensures.alone c.begin-begun.ensures.entered

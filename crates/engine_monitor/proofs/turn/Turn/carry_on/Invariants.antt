@@ -2,7 +2,7 @@ use Rattle.std.proofs.Common.{◌≡◌, false}
 use Rattle.engine_guarded.specs.Callers.{Follows}
 use Rattle.engine_guarded.specs.engine_history.specs.Sessions.{SessionCalls, is_pending}
 use Rattle.engine_monitor.specs.Ending.{calls_in}
-use Rattle.engine_monitor.proofs.shared.Shared.carry_on.Given as goal
+use Rattle.engine_monitor.proofs.turn.Turn.carry_on.Given as goal
 
 -- what is new follows from the call; where more is told of it the session hasn't moved
 abbrev pub invariant-loop : goal.invariant-loop

@@ -11,7 +11,7 @@ use Rattle.record_key.specs.declared.refusal.Refusal.{Refusal}
 use Rattle.engine_monitor.proofs.Refusing.{refuses_begin}
 use Rattle.engine_monitor.specs.Answering.{IsRefusalOf}
 use Rattle.engine_monitor.specs.Ending.{calls_in}
-use Rattle.engine_monitor.proofs.session.Session.begin.Goals as goal
+use Rattle.engine_monitor.proofs.client.Client.begin.Goals as goal
 
 pub returns-clause-refused : goal.returns-clause-refused
 returns-clause-refused g c =
