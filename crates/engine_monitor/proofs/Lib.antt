@@ -5,5 +5,6 @@ mod Refusing
 mod Resuming
 mod Marking
 mod Closing
+mod Renewal
 pub mod Opening
 pub mod Sharing

@@ -4,5 +4,6 @@ pub mod Beginning
 pub mod Sessions
 pub mod Opened
 pub mod Engines
+pub mod Renewing
 -- what a crate above names of those below
 pub use Rattle.engine_guarded as engine_guarded

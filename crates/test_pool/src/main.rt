@@ -12,6 +12,7 @@
 mod going_on;
 mod monitored;
 mod playing;
+mod renewing;
 mod running;
 mod tally;
 mod threads;
@@ -20,6 +21,7 @@ use engine_workers::Opened;
 use monitored::run_monitored;
 use playing::Case;
 use record_key::Refusal;
+use renewing::renews;
 use running::run_case;
 use std::alloc::Global;
 use std::sync::Wait;
@@ -36,6 +38,7 @@ fn main(rt: HostRuntime) -> io::Result<()> {
     run_tables(rt, alloc, tables.as_str(), &mut tally);
     run_plans(rt, alloc, plans.as_str(), &mut tally);
     tally.count("nine_sessions", refuses_nine(alloc));
+    tally.count("renewed_under_one_lock", renews(&rt, alloc));
     tally.report(&rt)
 }
 
