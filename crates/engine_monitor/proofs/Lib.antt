@@ -7,5 +7,6 @@ mod Marking
 mod Closing
 mod Batching
 mod Beginning
+mod Renewal
 pub mod Opening
 pub mod Sharing

@@ -5,5 +5,6 @@ pub mod Sessions
 pub mod Opened
 pub mod Engines
 pub mod Batches
+pub mod Renewing
 -- what a crate above names of those below
 pub use Rattle.engine_guarded as engine_guarded

@@ -27,7 +27,7 @@ use std::thread;
 /// its commands, in order: the crashes that it made, and the failures that it set.
 #[derive(Drop)]
 pub struct Engine<J: Naming, D: CrashLog = MemLog, P: CrashPages = MemPages> {
-    alloc: Global,
+    pub(crate) alloc: Global,
     shared: Arc<Shared<J, D, P>>,
     own: Caller<J>,
 }

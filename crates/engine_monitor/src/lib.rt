@@ -16,6 +16,7 @@ mod generic;
 mod held;
 mod known;
 mod opened;
+mod renewing;
 mod resting;
 mod session;
 mod session_states;
@@ -29,6 +30,7 @@ pub use engine_guarded::Closed;
 pub use engine_guarded::engine_answers::{Calls, Commands};
 pub use engine_guarded::engine_history::Naming;
 pub use opened::Opened;
+pub use renewing::Unrenewed;
 pub use session::Session;
 
 // What a crate above names of those below.

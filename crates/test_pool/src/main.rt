@@ -13,6 +13,7 @@ mod batches;
 mod going_on;
 mod monitored;
 mod playing;
+mod renewing;
 mod running;
 mod tally;
 mod threads;
@@ -22,6 +23,7 @@ use engine_workers::Opened;
 use monitored::run_monitored;
 use playing::Case;
 use record_key::Refusal;
+use renewing::renews;
 use running::run_case;
 use std::alloc::Global;
 use std::sync::Wait;
@@ -39,6 +41,7 @@ fn main(rt: HostRuntime) -> io::Result<()> {
     run_plans(rt, alloc, plans.as_str(), &mut tally);
     tally.count("nine_sessions", refuses_nine(alloc));
     tally.count("batches", run_batches(&rt, alloc));
+    tally.count("renewed_under_one_lock", renews(&rt, alloc));
     tally.report(&rt)
 }
 
