@@ -50,27 +50,27 @@ enum Next {
 /// Whether an engine's renewal has the records that were committed, and one whose client is amid a transaction isn't
 /// renewed, but goes on.
 pub fn renews<R: Wait>(rt: &R, alloc: Global) -> Verdict {
-    let Next::Renewed(opened) = next(rt, alloc, Opened::new(alloc, 1)?, FIRST)? else {
+    let Next::Renewed(opened) = successor(rt, alloc, Opened::new(alloc, 1)?, FIRST)? else {
         return Ok(false);
     };
-    let Next::Open(node) = next(rt, alloc, opened, SECOND)? else {
+    let Next::Open(node) = successor(rt, alloc, opened, SECOND)? else {
         return Ok(false);
     };
     let opened = Opened::over(alloc, Box::into_inner(node), 1, false)?;
-    let Next::Renewed(opened) = next(rt, alloc, opened, THIRD)? else {
+    let Next::Renewed(opened) = successor(rt, alloc, opened, THIRD)? else {
         return Ok(false);
     };
-    let last = next(rt, alloc, opened, LAST)?;
+    let last = successor(rt, alloc, opened, LAST)?;
     Ok(matches!(last, Next::Renewed(_)))
 }
 
 // What takes the place of an engine that is made of this, once the lines are followed.
-fn next<R: Wait>(rt: &R, alloc: Global, opened: Opened, lines: &str) -> Result<Next, Refusal> {
-    next_of::<Brand, R>(rt, alloc, opened, lines)
+fn successor<R: Wait>(rt: &R, alloc: Global, opened: Opened, lines: &str) -> Result<Next, Refusal> {
+    successor_of::<Brand, R>(rt, alloc, opened, lines)
 }
 
 // The same of an engine of this name.
-fn next_of<J, R>(rt: &R, alloc: Global, opened: Opened, lines: &str) -> Result<Next, Refusal>
+fn successor_of<J, R>(rt: &R, alloc: Global, opened: Opened, lines: &str) -> Result<Next, Refusal>
 where
     J: Naming + Drop,
     R: Wait,

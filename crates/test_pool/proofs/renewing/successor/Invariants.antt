@@ -1,10 +1,10 @@
 use Rattle.std.proofs.Common.{length}
 use Rattle.engine_monitor.specs.Opened.{agreement_name}
-use Rattle.test_pool.proofs.renewing.next.Given as goal
+use Rattle.test_pool.proofs.renewing.successor.Given as goal
 
 -- the engine's names are those of what was just opened
-abbrev pub ghosts-next_of : goal.ghosts-next_of
-ghosts-next_of g a = record {
+abbrev pub ghosts-successor_of : goal.ghosts-successor_of
+ghosts-successor_of g a = record {
   start = a.opened.start;
   entries = a.opened.entries;
   marks = a.opened.marks;
