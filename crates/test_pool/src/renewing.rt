@@ -36,6 +36,27 @@ const LAST: &str = "0 begin => begun 8
     0 scan a => rows a=1 b=2
     0 commit => committed 9";
 
+/// Which of the engines it is.
+#[derive(Clone, Copy)]
+enum Place {
+    First,
+    Second,
+    Third,
+    Last,
+}
+
+impl Place {
+    // What is called of it.
+    fn lines(self) -> &'static str {
+        match self {
+            Place::First => FIRST,
+            Place::Second => SECOND,
+            Place::Third => THIRD,
+            Place::Last => LAST,
+        }
+    }
+}
+
 /// What takes an engine's place.
 #[derive(Drop)]
 enum Next {
@@ -50,27 +71,32 @@ enum Next {
 /// Whether an engine's renewal has the records that were committed, and one whose client is amid a transaction isn't
 /// renewed, but goes on.
 pub fn renews<R: Wait>(rt: &R, alloc: Global) -> Verdict {
-    let Next::Renewed(opened) = successor(rt, alloc, Opened::new(alloc, 1)?, FIRST)? else {
+    let Next::Renewed(opened) = successor(rt, alloc, Opened::new(alloc, 1)?, Place::First)? else {
         return Ok(false);
     };
-    let Next::Open(node) = successor(rt, alloc, opened, SECOND)? else {
+    let Next::Open(node) = successor(rt, alloc, opened, Place::Second)? else {
         return Ok(false);
     };
     let opened = Opened::over(alloc, Box::into_inner(node), 1, false)?;
-    let Next::Renewed(opened) = successor(rt, alloc, opened, THIRD)? else {
+    let Next::Renewed(opened) = successor(rt, alloc, opened, Place::Third)? else {
         return Ok(false);
     };
-    let last = successor(rt, alloc, opened, LAST)?;
+    let last = successor(rt, alloc, opened, Place::Last)?;
     Ok(matches!(last, Next::Renewed(_)))
 }
 
-// What takes the place of an engine that is made of this, once the lines are followed.
-fn successor<R: Wait>(rt: &R, alloc: Global, opened: Opened, lines: &str) -> Result<Next, Refusal> {
-    successor_of::<Brand, R>(rt, alloc, opened, lines)
+// What takes the place of an engine that is made of this, once its lines are followed.
+fn successor<R: Wait>(
+    rt: &R,
+    alloc: Global,
+    opened: Opened,
+    place: Place,
+) -> Result<Next, Refusal> {
+    successor_of::<Brand, R>(rt, alloc, opened, place)
 }
 
 // The same of an engine of this name.
-fn successor_of<J, R>(rt: &R, alloc: Global, opened: Opened, lines: &str) -> Result<Next, Refusal>
+fn successor_of<J, R>(rt: &R, alloc: Global, opened: Opened, place: Place) -> Result<Next, Refusal>
 where
     J: Naming + Drop,
     R: Wait,
@@ -78,7 +104,7 @@ where
 {
     let (mut engine, sessions) = Engine::<J>::new(rt, opened)?;
     let mut clients = clients_of(alloc, sessions)?;
-    if !follow_all(rt, alloc, &mut engine, &mut clients, lines)? {
+    if !follow_all(rt, alloc, &mut engine, &mut clients, place.lines())? {
         return Ok(Next::Nothing);
     }
     renewed(rt, alloc, engine, sessions_of(alloc, clients)?)
