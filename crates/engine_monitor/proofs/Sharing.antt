@@ -41,6 +41,12 @@ use Rattle.engine_guarded.specs.dc_store.proofs.system.SystemTxns.TheSendSync as
 use Rattle.engine_guarded.specs.dc_store.specs.contracts.system.SystemTxns as SystemTxns
 use Rattle.dc_leaf.proofs.leaf.Leaf.TheSendSync as leaf
 use Rattle.record_key.proofs.key.Key.TheSendSync as key
+use Rattle.stable.proofs.mem_log.MemLog.TheSendSync as mem_log
+use Rattle.stable.proofs.mem_pages.MemPages.TheSendSync as mem_pages
+use Rattle.stable.specs.contracts.mem_log.MemLog as MemLog
+use Rattle.stable.specs.contracts.mem_log.MemLogLogDevice.TheImpl as log
+use Rattle.stable.specs.contracts.mem_pages.MemPages as MemPages
+use Rattle.stable.specs.contracts.mem_pages.MemPagesPageDevice.TheImpl as pages
 use Rattle.stable.specs.declared.log_device.LogDevice as log_device
 use Rattle.stable.specs.declared.page_device.PageDevice as page_device
 use Rattle.std.specs.contracts.alloc.Global as Global
@@ -193,3 +199,9 @@ module _ (D : RattleType) (d : log_device.Ghosts D.Denot) (sd : IsSend D) (P : R
 
     pub any_session_send : IsSend (Session.the_row J D P n d p)
     any_session_send = search (session_inside_send, sendable) depth 20
+
+-- a session of an engine in memory
+pub session_send : (J : RattleType) (n : naming.Ghosts J.Denot) → IsSend J → IsSync J
+    → IsSend (Session.the_row J MemLog.the_row MemPages.the_row n log.ghosts pages.ghosts)
+session_send J n s y =
+    any_session_send MemLog.the_row log.ghosts mem_log.the_send MemPages.the_row pages.ghosts mem_pages.the_send J n s y

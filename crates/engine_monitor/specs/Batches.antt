@@ -66,7 +66,7 @@ pub record IsBatch (entries : Shelves) (session : ℕ) (ops : List Op) (answers 
 abbrev pub IsUnbegun : List Op → SessionCalls → Refusal → SessionCalls → Type 0
 IsUnbegun ops old r new = ((r ≡ NoMemory) × (0 < length ops) × (new ≡ old)) ⊎ RefusedBegin old r new
 
--- the operation at this place was refused, and each before it was answered
+-- the operation of this index was refused, and each before it was answered
 pub record StopsAt (ops : List Op) (index : ℕ) (r : Refusal) (answers : List Answer) (old new : SessionCalls)
     : Type 0 where
   pub op : Op

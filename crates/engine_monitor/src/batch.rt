@@ -25,7 +25,7 @@ pub enum BatchRefused {
 /// The first operation of a batch that was refused.
 #[derive(Debug, Clone, Copy, PartialEq, Eq)]
 pub struct RefusedAct {
-    /// Its place in the batch.
+    /// Its index in the batch, from 0.
     pub index: usize,
     /// Why it was refused.
     pub refusal: Refusal,
@@ -71,7 +71,7 @@ impl<J: Naming> Client<J> {
         }
     }
 
-    // Does the operations, one after another, up to the first that is refused: its place, and why.
+    // Does the operations, one after another, up to the first that is refused: its index, and why.
     fn act_each<D: CrashLog, P: CrashPages, R: Wait>(
         &mut self,
         rt: &R,

@@ -1,7 +1,7 @@
 use denote.Param.Send.{sendable}
 use Rattle.std.proofs.Common.{◌≡◌, arith, length, vec_len}
 use Rattle.std.proofs.lemmas.Grind.{common_steps}
-use Rattle.shell_pool.proofs.Sharing.{monitored_send}
+use Rattle.engine_monitor.proofs.Sharing.{session_send}
 use Rattle.shell_pool.proofs.Numbering.{numbered}
 use Rattle.shell_pool.proofs.monitored.play_out.Goals as goal
 
@@ -14,4 +14,4 @@ returns g c =
     grind (arith, common_steps, all, count)
 
 pub play_all-requires-send-S : goal.play_all-requires-send-S
-play_all-requires-send-S g c κs within = search (monitored_send, sendable) depth 12
+play_all-requires-send-S g c κs within = search (session_send, sendable) depth 12
